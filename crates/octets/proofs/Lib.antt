@@ -1,0 +1,4 @@
+-- The laws of octets, over the number of octets. Assumes nothing.
+pub mod Numbers
+pub mod Parts
+pub mod Pieces
