@@ -1,0 +1,5 @@
+-- The laws of the header. Assumes nothing.
+pub mod Refusals
+pub mod RoundTrip
+pub mod ReadWrite
+mod Signs
