@@ -1,0 +1,15 @@
+-- Every row of the table holds: the definitions give what the page says. Assumes nothing.
+use mathlib.Core.Path.{_≡_, refl}
+use mathlib.Core.Bool.{true}
+use Rattle.octets.specs.Number.{num, octets}
+use Rattle.octets.specs.Piece.{spelled}
+use Rattle.header.specs.Header.{octetsOf, refusal}
+use Rattle.chain.specs.Chain.{allZero, stepAt, walkFor, walk, chainRefusal, soundRefusal}
+use Rattle.filter.specs.Positions.{number, positions}
+use Rattle.filter.specs.Filter.{addAll, countBelow}
+use Rattle.measure.specs.Measure.{difference, offset, delay}
+use Rattle.worked.specs.Cases.{bare, request, table, same, allSame, agree}
+
+pub worked : agree table ≡ true
+unfolding num octets spelled octetsOf refusal allZero stepAt walkFor walk chainRefusal soundRefusal number positions addAll countBelow difference offset delay bare request table same allSame agree
+worked = refl

@@ -1,0 +1,2 @@
+-- The claim about the worked cases. Assumes nothing.
+pub mod Claim

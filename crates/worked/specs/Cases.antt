@@ -1,0 +1,106 @@
+-- Document 01, "Cases M1 to M12": a row is a case's number, what the definitions give, and what the page says.
+use mathlib.Core.Bool.{Bool, true, false, cond, _&&_}
+use mathlib.Core.List.{List, [], _∷_, _++_}
+use Prim.Native.Nat.{ℕ, _+_, _-_, _^_}
+use lib.Dec.{eqb}
+use lib.IntN.{ℤ, pos, negsuc, negℤ}
+use lib.ListN.{getD, take, replicate}
+use Rattle.octets.specs.Number.{octets}
+use Rattle.header.specs.Header.{octetsOf}
+use Rattle.header.specs.declared.Header.{Header}
+use Rattle.chain.specs.Chain.{soundRefusal}
+use Rattle.chain.specs.Role.{goodRequest}
+use Rattle.filter.specs.Filter.{ofId, weight}
+use Rattle.measure.specs.Measure.{offset, delay}
+
+pub record Row : Type 0 where
+  pub case : ℕ
+  pub gives : List ℤ
+  pub says : List ℤ
+
+abbrev pub M : ℕ → List ℤ → List ℤ → Row
+M n g s = record { case = n; gives = g; says = s }
+
+-- a header of zeros but leap and mode
+unfoldable pub bare : ℕ → ℕ → Header
+bare l m = record {
+  leap = l;
+  mode = m;
+  stratum = 0;
+  poll = pos 0;
+  precision = pos 0;
+  timescale = 0;
+  era = 0;
+  flags = 0;
+  «root_delay» = 0;
+  «root_dispersion» = 0;
+  «server_cookie» = record { 0 = 0 };
+  «client_cookie» = record { 0 = 0 };
+  receive = 0;
+  transmit = 0;
+}
+
+-- octet 0 of a header with this leap and mode
+abbrev pub firstOctet : ℕ → ℕ → ℤ
+firstOctet l m = pos (getD (octetsOf (bare l m)) 0 0)
+
+-- a request without fields, and the first octets of a padding field of length n
+unfoldable pub request : List ℕ
+request = octetsOf (bare 0 3)
+
+abbrev pub padding : ℕ → List ℕ
+padding n = octets 2 0xF501 ++ octets 2 n
+
+-- the refusal of a datagram where a request is wanted
+abbrev pub refused : List ℕ → ℤ
+refused s = pos (soundRefusal s 3)
+
+-- octet k of the filter of an ID alone, and that filter's weight
+abbrev pub filtered : List ℕ → ℕ → List ℤ
+filtered id k = pos (getD (ofId id) k 0) ∷ pos (weight (ofId id)) ∷ []
+
+abbrev pub measured : (t1 t2 t3 t4 : ℕ) → List ℤ
+measured t1 t2 t3 t4 = offset t1 t2 t3 t4 ∷ pos (delay t1 t2 t3 t4) ∷ []
+
+-- 1 for a good filter request, 0 for an unknown field
+abbrev pub good : ℕ → ℕ → ℤ
+good at n = pos (cond (goodRequest at n) 1 0)
+
+unfoldable pub table : List Row
+table =
+    M 1 (firstOctet 0 3 ∷ firstOctet 0 4 ∷ firstOctet 3 4 ∷ []) (pos 0x2B ∷ pos 0x2C ∷ pos 0xEC ∷ [])
+    ∷ M 2 (
+    refused (take 47 request)
+    ∷ refused request
+    ∷ refused (request ++ replicate 2 0)
+    ∷ refused (request ++ padding 1232 ++ replicate 1228 0)
+    ∷ refused (request ++ padding 1236 ++ replicate 1232 0)
+    ∷ []
+    ) (pos 1 ∷ pos 0 ∷ pos 1 ∷ pos 0 ∷ pos 1 ∷ [])
+    ∷ M 3 (refused (request ++ padding 3) ∷ []) (pos 4 ∷ [])
+    ∷ M 4 (refused (request ++ padding 5 ++ 7 ∷ 0 ∷ 0 ∷ 0 ∷ []) ∷ []) (pos 0 ∷ [])
+    ∷ M 5 (filtered (replicate 15 0) 0) (pos 0x01 ∷ pos 1 ∷ [])
+    ∷ M 6 (filtered (replicate 15 0xFF) 511) (pos 0x80 ∷ pos 1 ∷ [])
+    ∷ M 7 (filtered (0x00 ∷ 0x10 ∷ 0x02 ∷ replicate 12 0) 0) (pos 0x07 ∷ pos 3 ∷ [])
+    ∷ M 8 (measured 0xFFFFFFFF00000000 0x80000000 0x80000000 0x100000000) (pos 2147483648 ∷ pos 8589934592 ∷ [])
+    ∷ M 9 (measured 10 10 10 11) (negℤ (pos 1) ∷ pos 1 ∷ [])
+    ∷ M 10 (measured 1 (2 ^ 63 + 1) (2 ^ 63 + 1) 1) (negℤ (pos (2 ^ 63)) ∷ pos 0 ∷ [])
+    ∷ M 11 (measured 1 (2 ^ 63) (2 ^ 63) 1) (pos (2 ^ 63 - 1) ∷ pos 0 ∷ [])
+    ∷ M 12 (good 508 4 ∷ good 508 8 ∷ []) (pos 1 ∷ pos 0 ∷ [])
+    ∷ []
+
+unfoldable pub same : ℤ → ℤ → Bool
+same (pos a) (pos b) = eqb a b
+same (pos a) (negsuc b) = false
+same (negsuc a) (pos b) = false
+same (negsuc a) (negsuc b) = eqb a b
+
+unfoldable pub allSame : List ℤ → List ℤ → Bool
+allSame [] [] = true
+allSame [] (y ∷ ys) = false
+allSame (x ∷ xs) [] = false
+allSame (x ∷ xs) (y ∷ ys) = same x y && allSame xs ys
+
+unfoldable pub agree : List Row → Bool
+agree [] = true
+agree (r ∷ rs) = allSame (r .gives) (r .says) && agree rs
