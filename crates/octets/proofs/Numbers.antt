@@ -54,18 +54,18 @@ unfolding octets
 length-octets zero v = refl
 length-octets (suc n) v = length-append (octets n (v / 256)) (v % 256 ∷ []) ∙ rw (length-octets n (v / 256)) (add-one n)
 
--- the number of the first octets of a longer list
-num-left : (p q : List ℕ) (n : ℕ) → n ≤ length p → num (p ++ q) 0 n ≡ num p 0 n
+-- a number within the first of two lists
+pub num-left : (p q : List ℕ) (at n : ℕ) → at + n ≤ length p → num (p ++ q) at n ≡ num p at n
 unfolding num
-num-left p q zero h = refl
-num-left p q (suc n) h = rw (num-left p q n (omega arith), List·getD-append p q 0 (0 + n) (omega arith))
+num-left p q at zero h = refl
+num-left p q at (suc n) h = rw (num-left p q at n (omega arith), List·getD-append p q 0 (at + n) (omega arith))
 
 pub num-octets : (n v : ℕ) → v < 256 ^ n → num (octets n v) 0 n ≡ v
 unfolding num octets
 num-octets zero v h = omega arith
 num-octets (suc n) v h =
     let l : n ≤ length (octets n (v / 256)) = omega (arith, length-octets n (v / 256)) in
-    let e = num-left (octets n (v / 256)) (v % 256 ∷ []) n l in
+    let e = num-left (octets n (v / 256)) (v % 256 ∷ []) 0 n (omega arith) in
     let r = num-octets n (v / 256) (div-lt-iff-lt-mul (omega arith) .1 (rw pow-suc at h)) in
     let g = getD-at (octets n (v / 256)) (v % 256) [] 0 (0 + n) (length-octets n (v / 256) ∙ sym (zero-add n)) in
     rw (e, r, g) (omega arith)
@@ -84,7 +84,7 @@ num-shift p r (suc n) = rw (num-shift p r n, getD-append-add, zero-add)
 
 pub num-at : (p q : List ℕ) (at n v : ℕ) → length p ≡ at → v < 256 ^ n → num (p ++ (octets n v ++ q)) at n ≡ v
 num-at p q at n v h l =
-    rw (← h, num-shift, num-left (octets n v) q n (omega (arith, length-octets n v))) (num-octets n v l)
+    rw (← h, num-shift, num-left (octets n v) q 0 n (omega (arith, length-octets n v))) (num-octets n v l)
 
 -- one octet and two, as the code reads and stores them
 

@@ -8,8 +8,8 @@ use native.Mathlib.Numerals.{add-one}
 use native.Mathlib.Omega.{arith}
 use borrow.Author.Tests.{le-leb, lt-leb, leb-true, leb-false}
 use lib.Dec.{leb}
-use lib.ListN.{length, getD, take, drop, set, length-append}
-use lib.Seq.{paste, paste-suc, length-paste, take-paste, drop-paste, take-all, drop-drop}
+use lib.ListN.{length, getD, take, drop, set, length-append, length-drop}
+use lib.Seq.{paste, paste-suc, length-paste, take-paste, drop-paste, take-all, take-at, drop-drop, drop-append-add}
 use Rattle.octets.specs.Part.{overwrite}
 
 -- the room test, with both numbers taken off the length
@@ -52,6 +52,28 @@ paste-paste s xs ys at m n hx hy h =
 -- a list of n, pasted whole
 pub pasted : (s xs : List ℕ) (at n : ℕ) → length xs ≡ n → paste s at xs n ≡ take at s ++ (xs ++ drop (at + n) s)
 pasted s xs at n h = rw (take-all n xs (omega arith)) (append-assoc (take at s) xs (drop (at + n) s))
+
+-- a list of n right after p, over what s has there
+pub next-part : (p s xs : List ℕ) (at n : ℕ) → length p ≡ at → length xs ≡ n → at + n ≤ length s
+    → overwrite (p ++ drop at s) at xs n ≡ (p ++ xs) ++ drop (at + n) s
+next-part p s xs at n h hx l =
+    let k : at + n ≤ length (p ++ drop at s) = simp (length-append, length-drop) (omega arith) in
+    overwritten (p ++ drop at s) at xs n k
+    ∙ pasted (p ++ drop at s) xs at n hx
+    ∙ rw (take-at p (drop at s) at h) (rw (← h, drop-append-add, h, drop-drop, append-assoc))
+
+-- l is s after the octets p were written from its start up to `at`
+pub record Overwrites (s p : List ℕ) (at : ℕ) (l : List ℕ) : Type 0 where
+  pub content : l ≡ p ++ drop at s
+  pub upTo : length p ≡ at
+
+-- one more part, right after those
+pub then-part : {s p l l′ : List ℕ} {at : ℕ} (xs : List ℕ) (n : ℕ) → Overwrites s p at l → length xs ≡ n → at + n ≤ length s
+    → l′ ≡ overwrite l at xs n → Overwrites s (p ++ xs) (at + n) l′
+then-part {s} {p} {l} {l′} {at} xs n w hx h e = record {
+  content = e ∙ ap (λ (t : List ℕ). overwrite t at xs n) (w .content) ∙ next-part p s xs at n (w .upTo) hx h;
+  upTo = length-append p xs ∙ rw (w .upTo, hx);
+}
 
 -- a turn of a loop that stores the octets of xs from `at` on
 pub paste-next : (s s₀ xs : List ℕ) (at i v : ℕ) → s ≡ paste s₀ at xs i → v ≡ getD xs i 0 → at + i < length s₀ → i < length xs
