@@ -1,0 +1,12 @@
+// Reads calls from standard input, one a line, and prints a result line for each: see docs/CASES.md.
+mod calls;
+mod input;
+mod numbers;
+mod octet_words;
+mod print;
+mod text;
+mod words;
+
+fn main() {
+    input::run_all();
+}

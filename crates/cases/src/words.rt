@@ -1,0 +1,109 @@
+// The words of a call, by its signature, which has a letter for each:
+//   b, h, w, q   a number of 8, 16, 32, 64 bits
+//   s            a signed number of 8 bits
+//   I            octets that the call reads
+//   O            octets that the call may change, at most one word of a call
+// A line is checked first; a call then takes its words out of the line by their numbers, from 1 on.
+use crate::numbers;
+use crate::octet_words::lay;
+use crate::text::piece;
+use octets::number::get8;
+
+// What can be wrong with a line: the numbers of the rows in `print::problem`. 0 is nothing.
+pub(crate) const UNKNOWN_CALL: u8 = 1;
+
+pub(crate) const MISSING: u8 = 2;
+
+pub(crate) const LEFT_OVER: u8 = 3;
+
+pub(crate) const NOT_A_NUMBER: u8 = 4;
+
+pub(crate) const OUT_OF_RANGE: u8 = 5;
+
+pub(crate) const NOT_OCTETS: u8 = 6;
+
+pub(crate) const ODD_DIGITS: u8 = 7;
+
+pub(crate) const TOO_MANY_OCTETS: u8 = 8;
+
+pub(crate) const TOO_LONG: u8 = 9;
+
+// A word's value: a number, or how many octets it has; and what is wrong with it.
+pub(crate) struct Value {
+    pub(crate) value: u64,
+    pub(crate) problem: u8,
+}
+
+// What is wrong with which word of a line, counted from 1.
+pub(crate) struct Fault {
+    pub(crate) word: usize,
+    pub(crate) problem: u8,
+}
+
+fn octets_problem(word: &[u8]) -> u8 {
+    let mut scratch = io::buffer();
+    let laid = lay(word, &mut scratch);
+    laid.problem
+}
+
+// What is wrong with a word for this letter; where there is no letter, a word is left over.
+fn problem_of(word: &[u8], letter: u8) -> u8 {
+    if word.len() == 0 {
+        return if letter == 0 { 0 } else { MISSING };
+    }
+    match letter {
+        0 => LEFT_OVER,
+        b'I' | b'O' => octets_problem(word),
+        _ => {
+            let read = numbers::read(word, letter);
+            read.problem
+        }
+    }
+}
+
+// What is wrong with a line whose call has this row of the table.
+pub(crate) fn check(line: &[u8], row: &[u8]) -> Fault {
+    let signature = piece(row, 1, b' ');
+    let mut word: usize = 1;
+    let mut problem = if row.len() == 0 { UNKNOWN_CALL } else { 0 };
+    while word <= signature.len() + 1 && problem == 0 {
+        problem = problem_of(piece(line, word, b' '), get8(signature, word - 1));
+        word += 1;
+    }
+    Fault {
+        word: word,
+        problem: problem,
+    }
+}
+
+// A word of a line that was checked, as a number. The remainders below only say that it fits.
+pub(crate) fn u64_at(line: &[u8], word: usize) -> u64 {
+    let read = numbers::read(piece(line, word, b' '), b'q');
+    read.value
+}
+
+pub(crate) fn u32_at(line: &[u8], word: usize) -> u32 {
+    (u64_at(line, word) % 4294967296) as u32
+}
+
+pub(crate) fn u16_at(line: &[u8], word: usize) -> u16 {
+    (u64_at(line, word) % 65536) as u16
+}
+
+pub(crate) fn u8_at(line: &[u8], word: usize) -> u8 {
+    (u64_at(line, word) % 256) as u8
+}
+
+// The number of eight bits whose two's complement this octet is.
+fn from_octet(x: u8) -> i8 {
+    if x < 128 {
+        x as i8
+    } else {
+        (x as i16 - 256) as i8
+    }
+}
+
+pub(crate) fn i8_at(line: &[u8], word: usize) -> i8 {
+    let read = numbers::read(piece(line, word, b' '), b's');
+    from_octet((read.value % 256) as u8)
+}
