@@ -1,5 +1,6 @@
-// The calls. Each has a row in the table of `run`, with its words' letters (words.rt) and the form of its result
-// line (print.rt); the row's number, from 0 on, stands in `make`.
+// The calls. Each has a row among the rows of `run`, with its words' letters (words.rt) and the form of its result
+// line (print.rt); the row's number, from 0 on, stands in `make`, or for the client's calls in client_calls.rt.
+use crate::client_calls;
 use crate::octet_words::lay;
 use crate::print;
 use crate::text::find;
@@ -11,11 +12,11 @@ use crate::words::u16_at;
 use crate::words::u32_at;
 use crate::words::u64_at;
 
-fn wide8(x: u8) -> u64 {
+pub(crate) fn wide8(x: u8) -> u64 {
     x as u64
 }
 
-fn wide16(x: u16) -> u64 {
+pub(crate) fn wide16(x: u16) -> u64 {
     x as u64
 }
 
@@ -28,7 +29,7 @@ fn wide(x: i8) -> i64 {
 }
 
 // The two's complement of 64 bits, of a negative number by way of -1 less it, which fits.
-fn bits(x: i64) -> u64 {
+pub(crate) fn bits(x: i64) -> u64 {
     if x < 0 {
         return u64::MAX - (-1 - x) as u64;
     }
@@ -36,7 +37,7 @@ fn bits(x: i64) -> u64 {
 }
 
 // A result that is a refusal or 0, and for some calls octets.
-fn result(row: &[u8], refusal: u8, octets: &[u8]) {
+pub(crate) fn result(row: &[u8], refusal: u8, octets: &[u8]) {
     print::line(row, &[wide8(refusal), 0], octets);
 }
 
@@ -118,7 +119,7 @@ fn call_measure(row: &[u8], t1: u64, t2: u64, t3: u64, t4: u64) {
 }
 
 // The call of this number, and its result. `octets` are those of its letter I, and `output` those of its letter O.
-fn make(call: usize, row: &[u8], line: &[u8], octets: &[u8], output: &mut [u8]) {
+fn make(call: usize, row: &[u8], line: &[u8], octets: &[u8], output: &mut [u8], table: &mut [u8]) {
     match call {
         0 => call_header(row, line, octets),
         1 => result(row, header::write(header_of(line), output), output),
@@ -126,13 +127,14 @@ fn make(call: usize, row: &[u8], line: &[u8], octets: &[u8], output: &mut [u8]) 
         3 => result(row, filter::add_id(output, octets), output),
         4 => result(row, filter::unite(output, octets), output),
         5 => call_weight(row, octets),
-        _ => call_measure(
+        6 => call_measure(
             row,
             u64_at(line, 1),
             u64_at(line, 2),
             u64_at(line, 3),
             u64_at(line, 4),
         ),
+        _ => client_calls::make(call, row, line, octets, output, table),
     }
 }
 
@@ -142,21 +144,21 @@ fn word_of<'a>(line: &'a [u8], row: &[u8], letter: u8) -> &'a [u8] {
 }
 
 // Runs a line that was checked.
-fn run_row(call: usize, row: &[u8], line: &[u8]) {
+fn run_row(call: usize, row: &[u8], line: &[u8], table: &mut [u8]) {
     let mut octets = io::buffer();
     let mut output = io::buffer();
     let read = lay(word_of(line, row, b'I'), &mut octets);
     let changed = lay(word_of(line, row, b'O'), &mut output);
     let n = (read.value % 4097) as usize;
     let m = (changed.value % 4097) as usize;
-    make(call, row, line, &octets[0..n], &mut output[0..m]);
+    make(call, row, line, &octets[0..n], &mut output[0..m], table);
 }
 
 // The number of the row with this name, or 64 where no row has it.
-fn look_up(table: &[u8], name: &[u8]) -> usize {
+fn look_up(rows: &[u8], name: &[u8]) -> usize {
     let mut k: usize = 0;
     while k < 64 {
-        if check::same(piece(piece(table, k, b'\n'), 0, b' '), name) {
+        if check::same(piece(piece(rows, k, b'\n'), 0, b' '), name) {
             return k;
         }
         k += 1;
@@ -165,9 +167,9 @@ fn look_up(table: &[u8], name: &[u8]) -> usize {
 }
 
 // Runs a line without its comment: makes the call and prints its result, or what is wrong. A line with no word
-// prints nothing.
-pub(crate) fn run(line: &[u8], number: u64) {
-    let table =
+// prints nothing. `table` is the client's.
+pub(crate) fn run(line: &[u8], number: u64, table: &mut [u8]) {
+    let rows =
         b"header bI %r leap=%d mode=%d stratum=%d poll=%i precision=%i timescale=%d era=%d flags=0x%h \
         root_delay=0x%w root_dispersion=0x%w server_cookie=0x%q client_cookie=0x%q receive=0x%q transmit=0x%q\n\
         write bbbssbbhwwqqqqO %d %o\n\
@@ -175,17 +177,25 @@ pub(crate) fn run(line: &[u8], number: u64) {
         add OI %d %o\n\
         union OI %d %o\n\
         weight I %r %d\n\
-        measure qqqq %i %d\n";
+        measure qqqq %i %d\n\
+        clear - %d\n\
+        open bbh %d\n\
+        close b %d\n\
+        poll bqsmO %r %d %o\n\
+        sent bq %d\n\
+        receive bqI %r judgement=%d chunk=%d offset=%i delay=%d\n\
+        verdict bI %r %d\n\
+        publish hIO %r %o\n";
     let name = piece(line, 0, b' ');
     if name.len() == 0 {
         return;
     }
-    let call = look_up(table, name);
-    let row = piece(table, call, b'\n');
+    let call = look_up(rows, name);
+    let row = piece(rows, call, b'\n');
     let fault = words::check(line, row);
     if fault.problem != 0 {
         print::problem(number, fault.word, fault.problem);
         return;
     }
-    run_row(call, row, line);
+    run_row(call, row, line, table);
 }

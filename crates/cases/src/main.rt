@@ -1,5 +1,6 @@
 // Reads calls from standard input, one a line, and prints a result line for each: see docs/CASES.md.
 mod calls;
+mod client_calls;
 mod input;
 mod numbers;
 mod octet_words;

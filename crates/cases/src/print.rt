@@ -120,7 +120,8 @@ pub(crate) fn problem(number: u64, word: usize, problem: u8) {
         line - %d: word %d: not octets\n\
         line - %d: word %d: odd number of hexadecimal digits\n\
         line - %d: word %d: more than 4096 octets\n\
-        line - %d: longer than 65536 octets\n";
+        line - %d: longer than 65536 octets\n\
+        line - %d: word %d: neither basic nor interleaved\n";
     line(
         piece(table, problem as usize, b'\n'),
         &[number, 0, word as u64, 0, 0, 0, 0, 0],

@@ -1,6 +1,8 @@
 // The words of a call, by its signature, which has a letter for each:
 //   b, h, w, q   a number of 8, 16, 32, 64 bits
 //   s            a signed number of 8 bits
+//   m            the word basic or interleaved
+//   -            no word: the signature of a call that has none
 //   I            octets that the call reads
 //   O            octets that the call may change, at most one word of a call
 // A line is checked first; a call then takes its words out of the line by their numbers, from 1 on.
@@ -28,6 +30,8 @@ pub(crate) const TOO_MANY_OCTETS: u8 = 8;
 
 pub(crate) const TOO_LONG: u8 = 9;
 
+pub(crate) const NO_MODE: u8 = 10;
+
 // A word's value: a number, or how many octets it has; and what is wrong with it.
 pub(crate) struct Value {
     pub(crate) value: u64,
@@ -46,13 +50,25 @@ fn octets_problem(word: &[u8]) -> u8 {
     laid.problem
 }
 
+fn mode_problem(word: &[u8]) -> u8 {
+    if check::same(word, b"basic") | check::same(word, b"interleaved") {
+        return 0;
+    }
+    NO_MODE
+}
+
 // What is wrong with a word for this letter; where there is no letter, a word is left over.
 fn problem_of(word: &[u8], letter: u8) -> u8 {
     if word.len() == 0 {
-        return if letter == 0 { 0 } else { MISSING };
+        return if (letter == 0) | (letter == b'-') {
+            0
+        } else {
+            MISSING
+        };
     }
     match letter {
-        0 => LEFT_OVER,
+        0 | b'-' => LEFT_OVER,
+        b'm' => mode_problem(word),
         b'I' | b'O' => octets_problem(word),
         _ => {
             let read = numbers::read(word, letter);
@@ -106,4 +122,8 @@ fn from_octet(x: u8) -> i8 {
 pub(crate) fn i8_at(line: &[u8], word: usize) -> i8 {
     let read = numbers::read(piece(line, word, b' '), b's');
     from_octet((read.value % 256) as u8)
+}
+
+pub(crate) fn is_interleaved(line: &[u8], word: usize) -> bool {
+    check::same(piece(line, word, b' '), b"interleaved")
 }

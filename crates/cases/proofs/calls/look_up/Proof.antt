@@ -1,11 +1,8 @@
+-- `look_up` is safe and ends. Assumes nothing.
 use Prim.Native.Nat.{_-_}
 use borrow.Author.Needs.{needs}
 use Rattle.cases.proofs.calls.look_up.Statement.{statement}
 use Rattle.cases.proofs.calls.look_up.Tie as tie
-use Rattle.cases.proofs.calls.look_up.Reads as reads
-use Rattle.cases.proofs.calls.look_up.Lts as lts
-use Rattle.cases.proofs.text.piece.Reads as piece-reads
-use Rattle.check.proofs.same.Reads as same-reads
 
 abbrev Inv-loop : tie.InvT-loop
 Inv-loop table name k₀ k = Unit {0}
@@ -13,39 +10,30 @@ Inv-loop table name k₀ k = Unit {0}
 abbrev μ-loop : tie.MeasureT-loop
 μ-loop table name k₀ k = 64 - k
 
--- src/calls.rt:168:5
 loop-holds : tie.Need-loop-holds Inv-loop μ-loop
 loop-holds c = search needs
 
--- src/calls.rt:169:30
 piece-requires : tie.Need-piece-requires Inv-loop μ-loop
 piece-requires c κs = search needs
 
--- src/calls.rt:169:24
 piece-requires-2 : tie.Need-piece-requires-2 Inv-loop μ-loop
 piece-requires-2 c κs = search needs
 
--- src/calls.rt:169:12
 same-requires : tie.Need-same-requires Inv-loop μ-loop
 same-requires c κs = search needs
 
--- src/calls.rt:170:13
 returns : tie.Need-returns Inv-loop μ-loop
 returns c = search needs
 
--- src/calls.rt:172:9
 add-k : tie.Need-add-k Inv-loop μ-loop
 add-k c = search needs
 
--- src/calls.rt:168:5
 loop-less : tie.Need-loop-less Inv-loop μ-loop
 loop-less c = search needs
 
--- src/calls.rt:168:5
 loop-again : tie.Need-loop-again Inv-loop μ-loop
 loop-again c = search needs
 
--- src/calls.rt:166:1
 returns-2 : tie.Need-returns-2 Inv-loop μ-loop
 returns-2 c = search needs
 

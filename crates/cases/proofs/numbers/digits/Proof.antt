@@ -1,3 +1,4 @@
+-- `digits` is safe and ends. Assumes nothing.
 use Prim.Native.Nat.{_-_}
 use native.Mathlib.Nat.{le-div-iff-mul-le}
 use native.Mathlib.Omega.{arith}
@@ -5,10 +6,6 @@ use lib.ListN.{length}
 use borrow.Author.Needs.{needs}
 use Rattle.cases.proofs.numbers.digits.Statement.{statement}
 use Rattle.cases.proofs.numbers.digits.Tie as tie
-use Rattle.cases.proofs.numbers.digits.Reads as reads
-use Rattle.cases.proofs.numbers.digits.Lts as lts
-use Rattle.cases.proofs.numbers.digit.Reads as digit-reads
-use Rattle.octets.proofs.number.get8.Reads as get8-reads
 
 abbrev Inv-loop : tie.InvT-loop
 Inv-loop text base most value₀ problem₀ i₀ value problem i = Unit {0}
@@ -16,55 +13,42 @@ Inv-loop text base most value₀ problem₀ i₀ value problem i = Unit {0}
 abbrev μ-loop : tie.MeasureT-loop
 μ-loop text base most value₀ problem₀ i₀ value problem i = length text - i
 
--- src/numbers.rt:31:5
 loop-holds : tie.Need-loop-holds Inv-loop μ-loop
 loop-holds c = search needs
 
--- src/numbers.rt:32:23
 get8-requires : tie.Need-get8-requires Inv-loop μ-loop
 get8-requires c κs = search needs
 
--- src/numbers.rt:32:17
 digit-requires : tie.Need-digit-requires Inv-loop μ-loop
 digit-requires c κs = search needs
 
--- src/numbers.rt:32:17
 cast-d : tie.Need-cast-d Inv-loop μ-loop
 cast-d c = search needs
 
--- src/numbers.rt:34:13
 returns : tie.Need-returns Inv-loop μ-loop
 returns c = search needs
 
--- src/numbers.rt:39:21
 sub-if3 : tie.Need-sub-if3 Inv-loop μ-loop
 sub-if3 c = search needs
 
--- src/numbers.rt:39:20
 div-if3 : tie.Need-div-if3 Inv-loop μ-loop
 div-if3 c = search needs
 
--- src/numbers.rt:42:21
 mul-value : tie.Need-mul-value Inv-loop μ-loop
 mul-value c = omega (arith, le-div-iff-mul-le (c .before .before .before .before .before .before .before .before .pre .0) .0 (c .if3 .left))
 
--- src/numbers.rt:42:21
 add-value : tie.Need-add-value Inv-loop μ-loop
 add-value c = omega (arith, le-div-iff-mul-le (c .before .before .before .before .before .before .before .before .pre .0) .0 (c .if3 .left))
 
--- src/numbers.rt:44:9
 add-i : tie.Need-add-i Inv-loop μ-loop
 add-i c = search needs
 
--- src/numbers.rt:31:5
 loop-less : tie.Need-loop-less Inv-loop μ-loop
 loop-less c = search needs
 
--- src/numbers.rt:31:5
 loop-again : tie.Need-loop-again Inv-loop μ-loop
 loop-again c = search needs
 
--- src/numbers.rt:25:1
 returns-2 : tie.Need-returns-2 Inv-loop μ-loop
 returns-2 c = search needs
 

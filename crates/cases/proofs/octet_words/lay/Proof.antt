@@ -1,18 +1,9 @@
+-- `lay` is safe and ends. Assumes nothing.
 use mathlib.Core.Path.{_≡_}
 use lib.ListN.{length}
 use borrow.Author.Needs.{needs}
 use Rattle.cases.proofs.octet_words.lay.Statement.{statement}
 use Rattle.cases.proofs.octet_words.lay.Tie as tie
-use Rattle.cases.proofs.octet_words.lay.Reads as reads
-use Rattle.cases.proofs.octet_words.lay.Lts as lts
-use Rattle.cases.proofs.octet_words.fill.Reads as fill-reads
-use Rattle.cases.proofs.octet_words.judge.Reads as judge-reads
-use Rattle.cases.proofs.octet_words.pair.Reads as pair-reads
-use Rattle.cases.proofs.octet_words.run_of.Reads as run-of-reads
-use Rattle.cases.proofs.text.part.Reads as part-reads
-use Rattle.octets.proofs.number.get8.Reads as get8-reads
-use Rattle.std.proofs.num.wrapping_add_u64.Reads as wrapping-add-u64-reads
-use Rattle.std.proofs.num.wrapping_add_usize.Reads as wrapping-add-usize-reads
 
 abbrev Inv-loop : tie.InvT-loop
 Inv-loop word buffer₀ minus at₀ count₀ problem₀ turns₀ buffer at count problem turns = length buffer ≡ length buffer₀
@@ -20,71 +11,54 @@ Inv-loop word buffer₀ minus at₀ count₀ problem₀ turns₀ buffer at count
 abbrev μ-loop : tie.MeasureT-loop
 μ-loop word buffer₀ minus at₀ count₀ problem₀ turns₀ buffer at count problem turns = turns
 
--- src/octet_words.rt:94:38
 get8-requires : tie.Need-get8-requires Inv-loop μ-loop
 get8-requires c κs = search needs
 
--- src/octet_words.rt:95:18
 cast-at : tie.Need-cast-at Inv-loop μ-loop
 cast-at c = search needs
 
--- src/octet_words.rt:99:5
 loop-holds : tie.Need-loop-holds Inv-loop μ-loop
 loop-holds c = search needs
 
--- src/octet_words.rt:100:9
 sub-turns : tie.Need-sub-turns Inv-loop μ-loop
 sub-turns c = search needs
 
--- src/octet_words.rt:101:13
 part-requires : tie.Need-part-requires Inv-loop μ-loop
 part-requires c κs = search needs
 
--- src/octet_words.rt:102:13
 run-of-requires : tie.Need-run-of-requires Inv-loop μ-loop
 run-of-requires c κs = search needs
 
--- src/octet_words.rt:103:9
 judge-requires : tie.Need-judge-requires Inv-loop μ-loop
 judge-requires c κs = search needs
 
--- src/octet_words.rt:104:47
 pair-requires : tie.Need-pair-requires Inv-loop μ-loop
 pair-requires c κs = search needs
 
--- src/octet_words.rt:104:9
 fill-requires : tie.Need-fill-requires Inv-loop μ-loop
 fill-requires c κs = search needs
 
--- src/octet_words.rt:105:9
 wrapping-add-u64-requires : tie.Need-wrapping-add-u64-requires Inv-loop μ-loop
 wrapping-add-u64-requires c κs = search needs
 
--- src/octet_words.rt:106:9
 wrapping-add-usize-requires : tie.Need-wrapping-add-usize-requires Inv-loop μ-loop
 wrapping-add-usize-requires c κs = search needs
 
--- src/octet_words.rt:99:5
 loop-less : tie.Need-loop-less Inv-loop μ-loop
 loop-less c = search needs
 
--- src/octet_words.rt:99:5
 loop-again : tie.Need-loop-again Inv-loop μ-loop
 loop-again c = search needs
 
--- src/octet_words.rt:93:1
 same-length : tie.Need-same-length Inv-loop μ-loop
 same-length c = search needs
 
--- src/octet_words.rt:93:1
 returns : tie.Need-returns Inv-loop μ-loop
 returns c = search needs
 
--- src/octet_words.rt:93:1
 same-length-2 : tie.Need-same-length-2 Inv-loop μ-loop
 same-length-2 c = search needs
 
--- src/octet_words.rt:93:1
 returns-2 : tie.Need-returns-2 Inv-loop μ-loop
 returns-2 c = search needs
 

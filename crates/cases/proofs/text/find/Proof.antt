@@ -1,11 +1,9 @@
+-- `find` is safe and ends. Assumes nothing.
 use Prim.Native.Nat.{_-_}
 use lib.ListN.{length}
 use borrow.Author.Needs.{needs}
 use Rattle.cases.proofs.text.find.Statement.{statement}
 use Rattle.cases.proofs.text.find.Tie as tie
-use Rattle.cases.proofs.text.find.Reads as reads
-use Rattle.cases.proofs.text.find.Lts as lts
-use Rattle.cases.proofs.text.plain.Reads as plain-reads
 
 abbrev Inv-loop : tie.InvT-loop
 Inv-loop text at octet same i₀ i = Unit {0}
@@ -13,35 +11,27 @@ Inv-loop text at octet same i₀ i = Unit {0}
 abbrev μ-loop : tie.MeasureT-loop
 μ-loop text at octet same i₀ i = length text - i
 
--- src/text.rt:28:5
 loop-holds : tie.Need-loop-holds Inv-loop μ-loop
 loop-holds c = search needs
 
--- src/text.rt:29:19
 shared-slice-read-plain : tie.Need-shared-slice-read-plain Inv-loop μ-loop
 shared-slice-read-plain c = search needs
 
--- src/text.rt:29:13
 plain-requires : tie.Need-plain-requires Inv-loop μ-loop
 plain-requires c κs = search needs
 
--- src/text.rt:30:13
 returns : tie.Need-returns Inv-loop μ-loop
 returns c = search needs
 
--- src/text.rt:32:9
 add-i : tie.Need-add-i Inv-loop μ-loop
 add-i c = search needs
 
--- src/text.rt:28:5
 loop-less : tie.Need-loop-less Inv-loop μ-loop
 loop-less c = search needs
 
--- src/text.rt:28:5
 loop-again : tie.Need-loop-again Inv-loop μ-loop
 loop-again c = search needs
 
--- src/text.rt:24:1
 returns-2 : tie.Need-returns-2 Inv-loop μ-loop
 returns-2 c = search needs
 

@@ -1,0 +1,115 @@
+"""What document 01 says of headers, field chains, filters and measurement: each answer from its arguments alone.
+
+Plain Python, written from the page ("What to make and its exact rules"), and from nothing of the Rattle code:
+octet strings are `bytes`, numbers are whole numbers without a width.
+"""
+
+
+def number(octets):
+    """Network order: the highest octet first."""
+    return int.from_bytes(octets, "big")
+
+
+def header_refusal(datagram, wanted_mode):
+    """Refusals 1, 2 and 3, in this order; 0 where none applies."""
+    if not 48 <= len(datagram) <= 1280 or len(datagram) % 4 != 0:
+        return 1
+    if datagram[0] // 8 % 8 != 5:
+        return 2
+    if datagram[0] % 8 != wanted_mode:
+        return 3
+    return 0
+
+
+def chain_refusal(datagram):
+    """Refusals 4 and 5, field by field from the left, 4 before 5 within a field."""
+    at = 48
+    while at < len(datagram):
+        length = number(datagram[at + 2:at + 4])
+        padded = (length + 3) // 4 * 4
+        if length < 4 or at + padded > len(datagram):
+            return 4
+        if any(datagram[at + length:at + padded]):
+            return 5
+        at += padded
+    return 0
+
+
+def sound(datagram, wanted_mode):
+    return header_refusal(datagram, wanted_mode) or chain_refusal(datagram)
+
+
+def fields(datagram):
+    """The fields of a sound datagram, from the left: each a type and its data."""
+    at = 48
+    while at < len(datagram):
+        length = number(datagram[at + 2:at + 4])
+        yield number(datagram[at:at + 2]), datagram[at + 4:at + length]
+        at += (length + 3) // 4 * 4
+
+
+# The fields after octet 0: name, first octet, octets, whether signed.
+FIELDS = [("stratum", 1, 1, False), ("poll", 2, 1, True), ("precision", 3, 1, True), ("timescale", 4, 1, False),
+          ("era", 5, 1, False), ("flags", 6, 2, False), ("root_delay", 8, 4, False), ("root_dispersion", 12, 4, False),
+          ("server_cookie", 16, 8, False), ("client_cookie", 24, 8, False), ("receive", 32, 8, False),
+          ("transmit", 40, 8, False)]
+
+
+def read_header(datagram):
+    values = {"leap": datagram[0] // 64, "mode": datagram[0] % 8}
+    for name, start, size, signed in FIELDS:
+        values[name] = int.from_bytes(datagram[start:start + size], "big", signed=signed)
+    return values
+
+
+def write_header(values, output):
+    """Refusal 6 for leap and mode, then 11; octets past the header stay, and all of them on a refusal."""
+    if values["leap"] > 3 or values["mode"] not in (3, 4):
+        return 6, output
+    if len(output) < 48:
+        return 11, output
+    octets = bytes([values["leap"] * 64 + 5 * 8 + values["mode"]])
+    for name, start, size, signed in FIELDS:
+        octets += values[name].to_bytes(size, "big", signed=signed)
+    return 0, octets + output[48:]
+
+
+def positions(identifier):
+    """Ten numbers of twelve bits, highest first."""
+    bits = "".join(f"{octet:08b}" for octet in identifier)
+    return [int(bits[i:i + 12], 2) for i in range(0, 120, 12)]
+
+
+def add(filter_octets, identifier):
+    if len(filter_octets) != 512 or len(identifier) != 15:
+        return 6, filter_octets
+    octets = bytearray(filter_octets)
+    for p in positions(identifier):
+        octets[p // 8] |= 2 ** (p % 8)
+    return 0, bytes(octets)
+
+
+def union(into, other):
+    if len(into) != 512 or len(other) != 512:
+        return 6, into
+    return 0, bytes(a | b for a, b in zip(into, other))
+
+
+def weight(filter_octets):
+    if len(filter_octets) != 512:
+        return 6, 0
+    return 0, sum(bin(octet).count("1") for octet in filter_octets)
+
+
+def difference(a, b):
+    """Modulo 2^64, read as the whole number from -2^63 to 2^63 - 1."""
+    d = (a - b) % 2 ** 64
+    return d - 2 ** 64 if d >= 2 ** 63 else d
+
+
+def offset(t1, t2, t3, t4):
+    return (difference(t2, t1) + difference(t3, t4)) // 2      # // rounds toward minus infinity
+
+
+def delay(t1, t2, t3, t4):
+    return abs(difference(t4, t1) - difference(t3, t2))
