@@ -41,7 +41,7 @@ pollOctets q cookie exponent interleaved =
     ++ octets 2 0xF5FF ++ octets 2 31 ++ draftName ++ (0 ∷ [])
     ++ octets 2 0xF503 ++ octets 2 (q .chunk + 4) ++ octets 2 (q .offset) ++ replicate (q .chunk - 2) 0
 
--- the output after it was written; only a chunk size of a chunk, and only where there is room
+-- the output after it was written. Ours, so that the call is total: a chunk size outside 16 to 512, or too little room, writes nothing
 unfoldable pub requestWritten : Asked → ℕ → ℤ → Bool → List ℕ → List ℕ
 requestWritten q cookie exponent interleaved out =
     cond (ltb (q .chunk) 16 || ltb 512 (q .chunk) || ltb (length out) (84 + q .chunk)) out
