@@ -5,4 +5,6 @@ pub mod Walks
 pub mod Chains
 pub mod Fields
 pub mod Roles
+pub mod Contents
+pub mod Datagrams
 mod Rests

@@ -1,15 +1,16 @@
--- Three flags tell what a responder has to know of the fields before. Assumes nothing.
+-- Three flags tell what a responder has to know of the fields before, and what a role says of its field. Assumes nothing.
 use mathlib.Core.Path.{_≡_, refl, sym, ap, _∙_}
-use mathlib.Core.Bool.{Bool, true, false, cond, _||_}
+use mathlib.Core.Bool.{Bool, true, false, cond, _&&_, _||_}
 use mathlib.Core.List.{List, [], _∷_, _++_}
-use Prim.Native.Nat.{ℕ}
-use borrow.Author.Tests.{eqb-true}
-use lib.Dec.{eqb}
-use Rattle.chain.specs.Role.{alreadyMet, roleOf, noneMet, metAfter, roleWith}
+use Prim.Native.Nat.{ℕ, _+_, _%_, _≤_}
+use borrow.Author.Tests.{eqb-true, leb-true}
+use lib.Dec.{eqb, leb}
+use Rattle.octets.specs.Number.{getAt}
+use Rattle.chain.specs.Role.{requestRole, firstRole, alreadyMet, roleOf, noneMet, metAfter, roleWith}
 use Rattle.chain.specs.declared.cursor.Field.{Field}
 use Rattle.chain.specs.declared.role.Met.{Met}
 use Rattle.chain.specs.declared.role.Role.{Role}
-use Rattle.chain.specs.declared.role.Role.the-variants.{Unknown}
+use Rattle.chain.specs.declared.role.Role.the-variants.{FilterRequest, Information, DraftName, Unknown}
 
 -- the flags of a list of fields
 abbrev pub metOf : List Field → Met
@@ -65,3 +66,63 @@ unfolding roleWith roleOf
 role-met s before f =
     at-type (f .kind) (λ (k : ℕ). alreadyMet k before) _ _ _ (eqb (f .kind) 0xF503) (eqb (f .kind) 0xF505) (eqb (f .kind) 0xF5FF)
     (eqb-true _ _) (eqb-true _ _) (eqb-true _ _)
+
+-- a good filter request
+pub record Good (offset n : ℕ) : Type 0 where
+  pub four : n % 4 ≡ 0
+  pub least : 4 ≤ n
+  pub inside : offset + n ≤ 512
+
+-- what a field has to be for its role
+abbrev pub Suits : Field → Role → Type 0
+Suits f (FilterRequest offset) = Good offset (f .length)
+Suits f Information = f .length ≡ 4
+Suits f DraftName = Unit {0}
+Suits f Unknown = Unit {0}
+
+suits-request : (f : Field) (offset : ℕ) → Suits f (requestRole offset (f .length))
+suits-request f offset = go (eqb (f .length % 4) 0) (leb 4 (f .length)) (leb (f .length) 512) (leb (offset + f .length) 512) refl refl refl
+  where
+    go : (a b c d : Bool) → eqb (f .length % 4) 0 ≡ a → leb 4 (f .length) ≡ b → leb (offset + f .length) 512 ≡ d
+        → Suits f (cond (a && b && c && d) (FilterRequest offset) Unknown)
+    go true true true true p q r = record { four = eqb-true _ _ p; least = leb-true _ _ q; inside = leb-true _ _ r }
+    go true true true false p q r = tt
+    go true true false d p q r = tt
+    go true false c d p q r = tt
+    go false b c d p q r = tt
+
+suits-first : (s : List ℕ) (f : Field) → Suits f (firstRole s f)
+suits-first s f = go (eqb (f .kind) 0xF503) (eqb (f .kind) 0xF505) (eqb (f .length) 4) (eqb (f .kind) 0xF5FF) refl
+  where
+    go : (a b c d : Bool) → eqb (f .length) 4 ≡ c
+        → Suits f (cond a (requestRole (getAt s (f .start) 2) (f .length)) (cond b (cond c Information Unknown) (cond d DraftName Unknown)))
+    go true b c d e = suits-request f (getAt s (f .start) 2)
+    go false true true d e = eqb-true _ _ e
+    go false true false d e = tt
+    go false false c true e = tt
+    go false false c false e = tt
+
+-- each field suits the role that it has
+pub suits : (s : List ℕ) (before : List Field) (f : Field) → Suits f (roleOf s before f)
+unfolding roleOf
+suits s before f = go (alreadyMet (f .kind) before)
+  where
+    go : (b : Bool) → Suits f (cond b Unknown (firstRole s f))
+    go true = tt
+    go false = suits-first s f
+
+-- also the role that three flags tell
+pub suits-with : (s : List ℕ) (f : Field) (m : Met) → Suits f (roleWith s f m)
+unfolding roleWith
+suits-with s f m = go (eqb (f .kind) 0xF503) (eqb (f .kind) 0xF505) (eqb (f .length) 4) (eqb (f .kind) 0xF5FF) (m .request) (m .information) (m .name) refl
+  where
+    go : (a b c d p q r : Bool) → eqb (f .length) 4 ≡ c
+        → Suits f (cond a (cond p Unknown (requestRole (getAt s (f .start) 2) (f .length))) (cond b (cond q Unknown (cond c Information Unknown)) (cond d (cond r Unknown DraftName) Unknown)))
+    go true b c d true q r e = tt
+    go true b c d false q r e = suits-request f (getAt s (f .start) 2)
+    go false true c d p true r e = tt
+    go false true true d p false r e = eqb-true _ _ e
+    go false true false d p false r e = tt
+    go false false c true p q true e = tt
+    go false false c true p q false e = tt
+    go false false c false p q r e = tt

@@ -103,21 +103,35 @@ placeOf WrongLength = 0
 placeOf WrongPadding = 0
 placeOf End = 0
 
--- where a step finds a field, the place that it reaches is four or more on, and within s
-pub reached : (s : List ℕ) (at : ℕ) (t : Step) (f : Field) (c : Cursor) → t ≡ stepAt s at → t ≡ Found f c
-    → (at + 4 ≤ c .at) × (c .at ≤ length s)
-unfolding placeOf
-reached s at t f c e e′ = go (stepAt s at) (view s at) (sym e ∙ e′)
+lengthOf : Step → ℕ
+lengthOf (Found f c) = f .length
+lengthOf WrongLength = 0
+lengthOf WrongPadding = 0
+lengthOf End = 0
+
+-- where a step finds a field, the place that it reaches is right after the field's data and padding, and within s
+landed : (s : List ℕ) (at : ℕ) (f : Field) (c : Cursor) → stepAt s at ≡ Found f c → (c .at ≡ at + 4 + padded (f .length)) × (c .at ≤ length s)
+unfolding placeOf lengthOf
+landed s at f c e = go (stepAt s at) (view s at) e
   where
-    go : (t : Step) → View s at t → t ≡ Found f c → (at + 4 ≤ c .at) × (c .at ≤ length s)
+    go : (t : Step) → View s at t → t ≡ Found f c → (c .at ≡ at + 4 + padded (f .length)) × (c .at ≤ length s)
     go t (ended h) q = let z : _≡_ {A = ℕ} 0 1 = cc in absurd (omega arith)
     go t (cut h i) q = let z : _≡_ {A = ℕ} 0 1 = cc in absurd (omega arith)
     go t (few h i) q = let z : _≡_ {A = ℕ} 0 1 = cc in absurd (omega arith)
     go t (past h i j) q = let z : _≡_ {A = ℕ} 0 1 = cc in absurd (omega arith)
     go t (unclean h i j d) q = let z : _≡_ {A = ℕ} 0 1 = cc in absurd (omega arith)
     go t (sound h i j d) q =
-        let z : at + padded (lengthAt s at) ≡ c .at = ap placeOf q in
+        let place : at + padded (lengthAt s at) ≡ c .at = ap placeOf q in
+        let size : lengthAt s at - 4 ≡ f .length = ap lengthOf q in
         (omega arith, omega arith)
+
+pub reached-exactly : (s : List ℕ) (at : ℕ) (f : Field) (c : Cursor) → stepAt s at ≡ Found f c → c .at ≡ at + 4 + padded (f .length)
+reached-exactly s at f c e = landed s at f c e .0
+
+-- so that it is four or more on
+pub reached : (s : List ℕ) (at : ℕ) (t : Step) (f : Field) (c : Cursor) → t ≡ stepAt s at → t ≡ Found f c
+    → (at + 4 ≤ c .at) × (c .at ≤ length s)
+reached s at t f c e q = let l = landed s at f c (sym e ∙ q) in (omega arith, l .1)
 
 -- a step that finds no field, as the code's `else` branch knows it
 pub data Stopped : Step → Type 0 where

@@ -8,6 +8,9 @@ use cursor::Step;
 ghost use mathlib.Core.Path.{_≡_};
 ghost use Rattle.chain.specs.Chain.{chainRefusal, soundRefusal};
 
+// Our draft name.
+pub const DRAFT_NAME: [u8; 27] = *b"draft-mlichvar-ntp-ntpv5-07";
+
 // Whether `rest`, what a datagram has after its header, is a chain: it is empty, or one sound field followed by a chain. 0, or
 // refusal 4 or 5 of the first field that is not sound.
 pub fn check(rest: &[u8]) -> u8

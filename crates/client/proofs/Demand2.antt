@@ -10,10 +10,10 @@ use lib.Dec.{eqb}
 use lib.ListN.{length, getD, set}
 use lib.Seq.{getD-set-same}
 use Rattle.octets.specs.Number.{Octets}
-use Rattle.header.specs.Header.{headerOf}
+use Rattle.header.specs.Header.{headerOf, interleavedFlag}
 use Rattle.chain.specs.Chain.{soundRefusal}
 use Rattle.exchange.specs.Judging.{outcomeOf}
-use Rattle.exchange.specs.Response.{interleavedFlag, responseOf}
+use Rattle.exchange.specs.Response.{responseOf}
 use Rattle.exchange.proofs.Responses.{response-sound, response-fields, response-t4}
 use Rattle.header.specs.declared.ClientCookie.{ClientCookie}
 use Rattle.exchange.specs.declared.response.Response.{Response}

@@ -7,9 +7,8 @@ use Prim.Native.Nat.{ℕ, _+_, _*_, _/_, _^_, _<_}
 use lib.Dec.{leb}
 use lib.ListN.{length, getD}
 use Rattle.octets.specs.Number.{Octets}
-use Rattle.header.specs.Header.{headerOf}
+use Rattle.header.specs.Header.{headerOf, interleavedFlag}
 use Rattle.chain.specs.Chain.{soundRefusal}
-use Rattle.exchange.specs.Response.{interleavedFlag}
 use Rattle.association.specs.Plain.{Outstanding, Opened, Place, closed, opened, allTaken}
 use Rattle.order.specs.Order.{TaggedCall, after, answers, answerOf, EveryCall, Distinct, Reordering}
 use Rattle.client.specs.Call.{Call, clearTable, receive, loopVerdict, Typed, names, plainAnswer}

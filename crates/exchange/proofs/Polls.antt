@@ -5,7 +5,6 @@ use mathlib.Core.Bool.{Bool, true, false, cond}
 use mathlib.Core.List.{List, [], _∷_, _++_, append-assoc}
 use Prim.Native.Nat.{ℕ, _+_, _%_, _^_, _-_, _≤_, _<_}
 use native.Mathlib.Omega.{arith}
-use borrow.Author.Tests.{eq-eqb}
 use lib.Dec.{lit<}
 use lib.IntN.{ℤ, pos}
 use lib.ListN.{length, drop, replicate, length-append}
@@ -20,13 +19,14 @@ use Rattle.header.proofs.Refusals.{refusal-none}
 use Rattle.header.proofs.RoundTrip.{length-octetsOf, read-written}
 use Rattle.chain.specs.Chain.{padded, allZero, stepAt, Walk, walk, soundRefusal, stepRefusal}
 use Rattle.chain.specs.Field.{fieldsOf}
-use Rattle.chain.specs.declared.cursor.Cursor.{Cursor}
 use Rattle.chain.specs.declared.cursor.Field.{Field}
 use Rattle.chain.specs.declared.cursor.Step.the-variants.{Found, End}
 use Rattle.chain.proofs.Zeros.{zeros-make, zeros-drop}
-use Rattle.chain.proofs.Steps.{at-end, at-field}
-use Rattle.chain.proofs.Walks.{walk-eq, chain-from}
-use Rattle.exchange.specs.Request.{draftName, pollHeader, pollOctets}
+use Rattle.chain.proofs.Steps.{at-field}
+use Rattle.chain.proofs.Datagrams.{sound-datagram}
+use Rattle.chain.proofs.Walks.{walk-found, walk-ended, chain-from}
+use Rattle.chain.specs.Content.{draftName}
+use Rattle.exchange.specs.Request.{pollHeader, pollOctets}
 use Rattle.exchange.specs.declared.request.Asked.{Asked}
 use Rattle.exchange.proofs.Requests.{length-pollOctets}
 
@@ -54,15 +54,6 @@ nameField = record { kind = 0xF5FF; start = 52; length = 27 }
 
 abbrev pub requestField : ℕ → Field
 requestField c = record { kind = 0xF503; start = 84; length = c }
-
--- a walk that finds a field, and one at its end
-
-walk-found : (s : List ℕ) (at : ℕ) (f : Field) (c : Cursor) (w : Walk) → stepAt s at ≡ Found f c → walk s (c .at) ≡ w
-    → walk s at ≡ record { fields = f ∷ w .fields; stop = w .stop }
-walk-found s at f c w e q = walk-eq s at ∙ rw (e, q)
-
-walk-ended : (s : List ℕ) (at : ℕ) → length s ≤ at → walk s at ≡ record { fields = []; stop = End }
-walk-ended s at h = walk-eq s at ∙ rw (at-end s at h)
 
 -- a datagram that has these octets after its header
 module _ (q : Asked) (s : List ℕ) (rest : drop 48 s ≡ fieldOctets q) where
@@ -182,9 +173,9 @@ module _ (q : Asked) (cookie : ℕ) (exponent : ℤ) (interleaved : Bool) where
 
     -- a poll is sound where a request is wanted
     pub poll-sound : soundRefusal (pollOctets q cookie exponent interleaved) 3 ≡ 0
-    unfolding soundRefusal
     poll-sound =
-        rw (eq-eqb _ _ poll-passes) (sym (chain-from (pollOctets q cookie exponent interleaved) 48) ∙ ap (λ (w : Walk). stepRefusal (w .stop)) poll-walked)
+        sound-datagram (pollOctets q cookie exponent interleaved) 3 poll-passes
+        (sym (chain-from (pollOctets q cookie exponent interleaved) 48) ∙ ap (λ (w : Walk). stepRefusal (w .stop)) poll-walked)
 
     -- its fields are the draft name and the filter request
     pub poll-fields : fieldsOf (pollOctets q cookie exponent interleaved) ≡ nameField ∷ requestField (q .chunk) ∷ []

@@ -19,7 +19,8 @@ use Rattle.header.specs.Header.{octetsOf, written}
 use Rattle.header.specs.declared.Header.{Header}
 use Rattle.header.proofs.Refusals.{in-room}
 use Rattle.header.proofs.RoundTrip.{length-octetsOf}
-use Rattle.exchange.specs.Request.{draftName, pollHeader, pollOctets, requestWritten}
+use Rattle.chain.specs.Content.{draftName}
+use Rattle.exchange.specs.Request.{pollHeader, pollOctets, requestWritten}
 use Rattle.exchange.specs.declared.request.Asked.{Asked}
 
 length-draftName : length draftName ≡ 27

@@ -8,50 +8,21 @@ use borrow.Author.Needs.{needs}
 use borrow.Author.Tests.{eq-eqb, ne-eqb}
 use denote.Enum.Declared.{tagOf}
 use lib.Dec.{eqb}
-use lib.ListN.{drop}
 use types.Run.{OneOf}
-use Rattle.header.specs.Header.{headerOf, refusal, reading}
+use Rattle.header.specs.Header.{headerOf, interleavedFlag}
 use Rattle.header.specs.declared.Header.{Header}
-use Rattle.header.specs.declared.Reading.{Reading}
-use Rattle.header.specs.declared.Reading.the-variants.{Fields, Refused}
-use Rattle.header.proofs.Reading.{the-type as reading-type}
-use Rattle.chain.specs.Chain.{chainRefusal, soundRefusal}
+use Rattle.chain.specs.Chain.{soundRefusal}
 use Rattle.chain.specs.Field.{fieldsOf, firstOf}
 use Rattle.chain.specs.declared.find.Occurrence.{Occurrence}
 use Rattle.chain.specs.declared.find.Occurrence.the-variants.{At, Absent}
 use Rattle.chain.proofs.find.Occurrence.{the-type as occurrence-type}
-use Rattle.exchange.specs.Response.{interleavedFlag, withChunk, refusedResponse, responseOf}
+use Rattle.exchange.specs.Response.{withChunk, refusedResponse, responseOf}
 use Rattle.exchange.specs.declared.response.Response.{Response}
 
 -- no field of the type, as the code's `if let` leaves it
 pub absent : (o : Occurrence) → OneOf (1 ∷ []) (tagOf occurrence-type o) → o ≡ Absent
 absent (At f) h = absurd (omega arith)
 absent Absent h = refl
-
--- a sound datagram's header passes
-pub header-passes : (s : List ℕ) (wanted : ℕ) → soundRefusal s wanted ≡ 0 → refusal s wanted ≡ 0
-unfolding soundRefusal
-header-passes s wanted e = go (refusal s wanted) e
-  where
-    go : (n : ℕ) → cond (eqb n 0) (chainRefusal (drop 48 s)) n ≡ 0 → n ≡ 0
-    go zero h = refl
-    go (suc n) h = rw (ne-eqb (suc n) 0 (λ e. omega arith)) at h
-
--- and so its fields are read
-module _ (s : List ℕ) (wanted : ℕ) (r : Reading) (sound : soundRefusal s wanted ≡ 0) (e : r ≡ reading (refusal s wanted) (headerOf s)) where
-  fields-read : r ≡ Fields (headerOf s)
-  fields-read = e ∙ rw (header-passes s wanted sound)
-
-  pub header-read : (h : Header) → r ≡ Fields h → h ≡ headerOf s
-  header-read h q = let f = fields-read in cc
-
-  -- the code's `else` branch is never reached
-  pub not-refused : OneOf (1 ∷ []) (tagOf reading-type r) → ⊥
-  not-refused o = go r fields-read o
-    where
-      go : (r : Reading) → r ≡ Fields (headerOf s) → OneOf (1 ∷ []) (tagOf reading-type r) → ⊥
-      go (Fields h) q o = omega arith
-      go (Refused n) q o = let z : _≡_ {A = ℕ} 0 1 = cc in omega arith
 
 module _ (s : List ℕ) (t4 : ℕ) where
   pub response-accepted : soundRefusal s 4 ≡ 0 → responseOf s t4 ≡ withChunk (firstOf 0xF504 (fieldsOf s)) (headerOf s) t4

@@ -8,12 +8,8 @@ use lib.ListN.{length, drop, replicate}
 use Rattle.octets.specs.Number.{octets}
 use Rattle.header.specs.Header.{octetsOf}
 use Rattle.header.specs.declared.Header.{Header}
+use Rattle.chain.specs.Content.{draftName}
 use Rattle.exchange.specs.declared.request.Asked.{Asked}
-
--- `draft-mlichvar-ntp-ntpv5-07` in ASCII
-unfoldable pub draftName : List ℕ
-draftName =
-    100 ∷ 114 ∷ 97 ∷ 102 ∷ 116 ∷ 45 ∷ 109 ∷ 108 ∷ 105 ∷ 99 ∷ 104 ∷ 118 ∷ 97 ∷ 114 ∷ 45 ∷ 110 ∷ 116 ∷ 112 ∷ 45 ∷ 110 ∷ 116 ∷ 112 ∷ 118 ∷ 53 ∷ 45 ∷ 48 ∷ 55 ∷ []
 
 -- all zero but version, mode 3, timescale, poll, flag 0x2 if interleaved is wanted, the client cookie and the server cookie
 abbrev pub pollHeader : Asked → ℕ → ℤ → Bool → Header

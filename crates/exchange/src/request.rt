@@ -1,4 +1,5 @@
 // Writing a request.
+use chain::DRAFT_NAME;
 use header::ClientCookie;
 use header::Header;
 use header::ServerCookie;
@@ -14,8 +15,6 @@ pub struct Asked {
     pub offset: u16,
     pub server: ServerCookie,
 }
-
-const DRAFT_NAME: [u8; 27] = *b"draft-mlichvar-ntp-ntpv5-07";
 
 fn poll_header(asked: Asked, cookie: ClientCookie, exponent: i8, interleaved: bool) -> Header
     ensures { λ r. ⌜ r ≡ pollHeader asked (cookie .0) exponent interleaved ⌝ }

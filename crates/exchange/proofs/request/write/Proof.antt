@@ -3,7 +3,8 @@ use mathlib.Core.Path.{ap, _∙_}
 use lib.ListN.{length}
 use native.Mathlib.Omega.{arith}
 use borrow.Author.Tests.{lt-ltb, le-ltb}
-use Rattle.exchange.specs.Request.{draftName, requestWritten}
+use Rattle.chain.specs.Content.{draftName}
+use Rattle.exchange.specs.Request.{requestWritten}
 use Rattle.exchange.proofs.Requests.{header-written, parts-written, length-requestWritten}
 use borrow.Author.Needs.{needs}
 use Rattle.exchange.proofs.request.write.Statement.{statement}

@@ -1,0 +1,77 @@
+-- Where an answer is not refused: its request and arguments are accepted, and the times of its row are of 64 bits. Assumes nothing.
+use mathlib.Core.Path.{_≡_, refl}
+use mathlib.Core.Bool.{Bool, true, false, cond, not, _||_}
+use mathlib.Core.List.{List, [], _∷_}
+use Prim.Native.Nat.{ℕ, zero, suc, _+_, _<_, _^_}
+use native.Mathlib.Omega.{arith}
+use borrow.Author.Tests.{ltb-false, eqb-true, ne-eqb, not-false}
+use lib.Dec.{eqb, lit<}
+use Rattle.octets.specs.Number.{Octets, num}
+use Rattle.octets.proofs.Numbers.{num-lt}
+use Rattle.chain.specs.Chain.{soundRefusal}
+use Rattle.store.specs.Row.{Record, timeOf, recordsFrom, unused, usedOf, rowOf, wrongStore}
+use Rattle.store.proofs.Rows.{or-none}
+use Rattle.responder.specs.Answer.{Given, wrongArguments, wrongFresh, answerRefusal, asking, sentFields}
+use Rattle.responder.specs.Claim.{Accepted, InRange, AnswerClaim}
+use Rattle.responder.proofs.Answers.{either, answer-claim}
+
+-- a refusal that is not given
+pub not-given : (b : Bool) (n m : ℕ) → cond b (suc n) m ≡ 0 → (b ≡ false) × (m ≡ 0)
+not-given true n m e = absurd (omega arith)
+not-given false n m e = (refl, e)
+
+-- the refusal of the request, before others
+request-passes : (n m : ℕ) → cond (not (eqb n 0)) n m ≡ 0 → (n ≡ 0) × (m ≡ 0)
+request-passes zero m e = (refl, e)
+request-passes (suc n) m e = absurd (omega (arith, rw (ne-eqb (suc n) 0 (λ e. omega arith)) at e))
+
+-- an answer that is not refused has its request and its arguments accepted
+pub answer-accepted : (g : Given) (store out : List ℕ) → answerRefusal g store out ≡ 0 → Accepted g
+unfolding answerRefusal
+answer-accepted g store out e =
+    let wrong = wrongArguments (g .filter) (g .information) (g .server .leap) (g .receive) (g .estimate) in
+    let first = not-given (wrongStore store || wrong) 5 _ e in
+    let arguments = or-none (wrongStore store) wrong (first .0) .1 in
+    let four = or-none _ (eqb (g .estimate) 0) arguments .0 in
+    let three = or-none _ (eqb (g .receive) 0) four .0 in
+    let two = or-none _ _ three in
+    let one = or-none _ _ (two .0) in
+    record {
+      request = request-passes (soundRefusal (g .request) 3) _ (first .1) .0;
+      filter = eqb-true _ _ (not-false _ (one .0));
+      information = eqb-true _ _ (not-false _ (one .1));
+      leap = ltb-false _ _ (two .1);
+    }
+
+-- nor has it a fresh cookie that is needed and wrong
+pub answer-fresh : (g : Given) (store out : List ℕ) → answerRefusal g store out ≡ 0 → wrongFresh (asking g) (g .fresh) (rowOf store) ≡ false
+unfolding answerRefusal
+answer-fresh g store out e =
+    let wrong = wrongArguments (g .filter) (g .information) (g .server .leap) (g .receive) (g .estimate) in
+    let first = not-given (wrongStore store || wrong) 5 _ e in
+    let second = request-passes (soundRefusal (g .request) 3) _ (first .1) in
+    not-given (wrongFresh (asking g) (g .fresh) (rowOf store)) 7 _ (second .1) .0
+
+-- the times of the records that a store has
+
+time-first : (r : Record) (rs : List Record) (cookie : ℕ) → r .time < 2 ^ 64 → timeOf cookie (usedOf rs) < 2 ^ 64
+    → timeOf cookie (usedOf (r ∷ rs)) < 2 ^ 64
+unfolding timeOf usedOf
+time-first r rs cookie h k = go (unused r)
+  where
+    go : (b : Bool) → timeOf cookie (cond b [] (r ∷ usedOf rs)) < 2 ^ 64
+    go true = lit< tt
+    go false = either (eqb (r .cookie) cookie) (r .time) (timeOf cookie (usedOf rs)) (2 ^ 64) h k
+
+times-from : (n : ℕ) (s : List ℕ) (at : ℕ) → Octets s → (cookie : ℕ) → timeOf cookie (usedOf (recordsFrom n s at)) < 2 ^ 64
+unfolding timeOf usedOf recordsFrom
+times-from zero s at o cookie = lit< tt
+times-from (suc n) s at o cookie =
+    time-first (record { cookie = num s at 8; time = num s (at + 8) 8 }) (recordsFrom n s (at + 16)) cookie (num-lt s (at + 8) 8 o) (times-from n s (at + 16) o cookie)
+
+pub row-times : (store : List ℕ) → Octets store → (cookie : ℕ) → timeOf cookie (rowOf store) < 2 ^ 64
+row-times store o cookie = times-from _ store 0 o cookie
+
+-- the claim, of each answer that is not refused
+pub answer-given : (g : Given) (store out : List ℕ) → answerRefusal g store out ≡ 0 → InRange g (rowOf store) → AnswerClaim g (rowOf store)
+answer-given g store out e r = answer-claim g (rowOf store) (answer-accepted g store out e) r

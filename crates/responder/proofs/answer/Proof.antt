@@ -1,0 +1,192 @@
+-- `answer` meets its contract: each test is one of the definition's, and what is left is written. Assumes nothing.
+use mathlib.Core.Path.{_≡_, sym, ap, _∙_}
+use mathlib.Core.List.{List, [], _++_}
+use Prim.Native.Nat.{ℕ}
+use native.Mathlib.Omega.{arith}
+use lib.ListN.{length, drop}
+use Rattle.chain.specs.Chain.{soundRefusal}
+use Rattle.chain.proofs.Datagrams.{header-read, not-refused}
+use Rattle.header.specs.Header.{headerOf}
+use Rattle.header.specs.declared.Header.{Header}
+use Rattle.store.specs.Row.{rowOf, sizeOf, storeOctets}
+use Rattle.responder.specs.Answer.{Given, asking, wrongFresh, rowAfter}
+use Rattle.responder.proofs.Writing.{request-size}
+use Rattle.responder.proofs.Deciding.{first, refused-first, right-store, sound-request, refused-fresh, refused-room, given-accepted, answered, lent-size, lent-back, octets-sent}
+use borrow.Author.Needs.{needs}
+use Rattle.responder.proofs.answer.Statement.{statement}
+use Rattle.responder.proofs.answer.Tie as tie
+
+-- what the call is given
+abbrev given : tie.Start → Given
+given c = record {
+  request = c .args .request .now;
+  receive = c .args .receive;
+  estimate = c .args .estimate;
+  fresh = c .args .fresh .0;
+  server = c .args .server;
+  filter = c .args .filter .now;
+  information = c .args .information .now;
+}
+
+-- none of the first refusals holds
+abbrev start : tie.Else1 → tie.Start
+start c = c .before .before .before .before .before .before .before .before
+
+zero : (c : tie.Else1) → first (given (start c)) (start c .args .store .now) [] ≡ 0
+zero c = sym (c .before .check .ensures) ∙ c .if1 .left
+
+sound : (c : tie.Else1) → soundRefusal (start c .args .request .now) 3 ≡ 0
+sound c = sound-request (given (start c)) (start c .args .store .now) [] (zero c)
+
+-- the header read is the request's
+asked-is : (c : tie.After-asked) → c .asked .given .0 .0 ≡ headerOf (start (c .before .before .before) .args .request .now)
+asked-is c =
+    let at-read = c .before .before in
+    header-read _ 3 _ (sound (at-read .before)) (at-read .read .ensures) _ (c .asked .given .1)
+
+-- so that 8 is tested as the definition has it
+fresh-test : (c : tie.After-wrong-fresh) → let s = start (c .before .before .before .before .before .before) in
+    c .wrong-fresh .result ≡ wrongFresh (asking (given s)) (s .args .fresh .0) (rowOf (s .args .store .now))
+fresh-test c =
+    let at-asked = c .before .before .before in
+    let s = start (at-asked .before .before .before) in
+    c .wrong-fresh .ensures ∙ ap (λ (h : Header). wrongFresh h (s .args .fresh .0) (rowOf (s .args .store .now))) (asked-is at-asked)
+
+check-requires : tie.Need-check-requires
+check-requires c κs = search needs
+
+same-length : tie.Need-same-length
+same-length c = search needs
+
+returns : tie.Need-returns
+returns c = refused-first (given (c .before .before .before .before .before .before .before .before)) _ _ (c .before .check .ensures) (c .if1 .taken)
+
+read-requires : tie.Need-read-requires
+read-requires c κs = search needs
+
+enum-known-asked : tie.Need-enum-known-asked
+enum-known-asked c = search needs
+
+enum-told : tie.Need-enum-told
+enum-told c = search needs
+
+same-length-2 : tie.Need-same-length-2
+same-length-2 c = search needs
+
+returns-2 : tie.Need-returns-2
+returns-2 c =
+    let at-read = c .before .before in
+    absurd (not-refused _ 3 _ (sound (at-read .before)) (at-read .read .ensures) (c .before .match .keys2))
+
+wrong-fresh-requires : tie.Need-wrong-fresh-requires
+wrong-fresh-requires c κs = right-store (given (start (c .before .before .before .before .before))) _ [] (zero (c .before .before .before .before .before))
+
+same-length-3 : tie.Need-same-length-3
+same-length-3 c = search needs
+
+returns-3 : tie.Need-returns-3
+returns-3 c =
+    let at-asked = c .before .before .before .before in
+    let first = at-asked .before .before .before in
+    refused-fresh (given (start first)) _ _ (zero first) (sym (fresh-test (c .before)) ∙ c .if2 .taken)
+
+same-length-4 : tie.Need-same-length-4
+same-length-4 c = search needs
+
+returns-4 : tie.Need-returns-4
+returns-4 c =
+    let second = c .before in
+    let first = second .before .before .before .before .before .before .before in
+    refused-room (given (start first)) _ _ (zero first) (sym (fresh-test (second .before)) ∙ second .if2 .left) (c .if3 .taken)
+
+time-requires : tie.Need-time-requires
+time-requires c κs =
+    let first = c .before .before .before .before .before .before .before .before .before in
+    right-store (given (start first)) _ [] (zero first)
+
+header-of-requires : tie.Need-header-of-requires
+header-of-requires c κs = search needs
+
+sub-write : tie.Need-sub-write
+sub-write c = search needs
+
+part-write-start : tie.Need-part-write-start
+part-write-start c = search needs
+
+part-write-end : tie.Need-part-write-end
+part-write-end c = search needs
+
+write-requires : tie.Need-write-requires
+write-requires c κs =
+    let at-header = c .before in
+    let third = at-header .before .before .before in
+    let at-fresh = third .before .before in
+    let first = at-fresh .before .before .before .before .before .before in
+    let a = start first .args in
+    let ok = given-accepted (given (start first)) (a .store .now) (a .out .now) (zero first) (sym (fresh-test at-fresh) ∙ third .before .if2 .left) (third .if3 .left) in
+    (sound first, ok .filter, ok .information, lent-size (a .out .now) (length (a .request .now)) (third .if3 .left), rw (at-header .header-of .ensures) (ok .leap), rw (at-header .header-of .ensures))
+
+keep-requires : tie.Need-keep-requires
+keep-requires c κs =
+    let at-time = c .before .before .before .before .before .before in
+    let first = at-time .before .before .before .before .before .before .before .before .before .before in
+    (right-store (given (start first)) _ [] (zero first), at-time .time .ensures)
+
+cast-t31 : tie.Need-cast-t31
+cast-t31 c =
+    let at-write = c .before .before .before .before .before .before in
+    let first = at-write .before .before .before .before .before .before .before .before .before .before .before .before .before in
+    let size = request-size _ (sound first) in
+    search needs
+
+same-length-5 : tie.Need-same-length-5
+same-length-5 c = search needs
+
+same-length-6 : tie.Need-same-length-6
+same-length-6 c = search needs
+
+returns-5 : tie.Need-returns-5
+returns-5 c =
+    let at-keep = c .before .before in
+    let at-write = at-keep .before .before .before .before in
+    let at-header = at-write .before .before in
+    let at-time = at-header .before in
+    let third = at-time .before .before in
+    let at-fresh = third .before .before in
+    let at-asked = at-fresh .before .before .before in
+    let first = at-asked .before .before .before in
+    let a = start first .args in
+    let g = given (start first) in
+    let sent = octets-sent g (rowOf (a .store .now)) (asked-is at-asked) (at-time .time .ensures) (at-header .header-of .ensures) (at-write .write .ensures) in
+    answered g (a .store .now) (a .out .now) (zero first) (sym (fresh-test at-fresh) ∙ third .before .if2 .left) (third .if3 .left)
+    (lent-back (a .out .now) (at-write .write .last .1 .1 .1 .1 .0) (length (a .request .now)) ∙ ap (λ (l : List ℕ). l ++ drop (length (a .request .now)) (a .out .now)) sent)
+    (at-keep .keep .ensures ∙ ap (λ (h : Header). storeOctets (sizeOf (a .store .now)) (rowAfter h (a .fresh .0) (sizeOf (a .store .now)) (rowOf (a .store .now)))) (asked-is at-asked))
+
+pub answer-spec : {M : Type 1} → statement M
+answer-spec =
+    tie.close
+    (tie.spec
+    check-requires
+    same-length
+    returns
+    read-requires
+    enum-known-asked
+    enum-told
+    same-length-2
+    returns-2
+    wrong-fresh-requires
+    same-length-3
+    returns-3
+    same-length-4
+    returns-4
+    time-requires
+    header-of-requires
+    sub-write
+    part-write-start
+    part-write-end
+    write-requires
+    keep-requires
+    cast-t31
+    same-length-5
+    same-length-6
+    returns-5)

@@ -1,0 +1,37 @@
+-- `header_of` meets its contract: each number is the one that its call answers. Assumes nothing.
+use mir.Syntax.{w8}
+use mir.Facts.{toZ-ofZ}
+use borrow.Author.Needs.{needs}
+use Rattle.responder.proofs.reply.header_of.Statement.{statement}
+use Rattle.responder.proofs.reply.header_of.Tie as tie
+
+flags-of-requires : tie.Need-flags-of-requires
+flags-of-requires c κs = search needs
+
+wants-interleaved-requires : tie.Need-wants-interleaved-requires
+wants-interleaved-requires c κs = search needs
+
+either-requires : tie.Need-either-requires
+either-requires c κs = search needs
+
+either-requires-2 : tie.Need-either-requires-2
+either-requires-2 c κs = search needs
+
+returns : tie.Need-returns
+returns c =
+    let at-either2 = c .before .before in
+    let at-either = at-either2 .before in
+    let at-wants = at-either .before in
+    let at-flags = at-wants .before in
+    let numbers = at-flags .before .good .0 .1 .1 .1 .1 in
+    rw (toZ-ofZ {w = w8} (record { sfits = numbers .0 .1 }), toZ-ofZ {w = w8} (record { sfits = numbers .1 .0 .1 }), at-flags .flags-of .ensures, at-either2 .either2 .ensures, at-either .either .ensures, at-wants .wants-interleaved .ensures)
+
+pub header-of-spec : {M : Type 1} → statement M
+header-of-spec =
+    tie.close
+    (tie.spec
+    flags-of-requires
+    wants-interleaved-requires
+    either-requires
+    either-requires-2
+    returns)

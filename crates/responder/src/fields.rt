@@ -1,0 +1,108 @@
+// The answer's fields: one pass over those of the request.
+use chain::DRAFT_NAME;
+use chain::cursor::Cursor;
+use chain::cursor::Field;
+use chain::cursor::Step;
+use chain::role;
+use chain::role::Met;
+use chain::role::Role;
+use octets::number;
+use octets::part;
+ghost use mathlib.Core.Path.{_≡_};
+ghost use Prim.Native.Nat.{_+_, _-_, _%_, _≤_, min};
+ghost use mathlib.Core.List.{[], _∷_, _++_};
+ghost use lib.ListN.{length, take, drop};
+ghost use Rattle.chain.specs.Chain.{padded};
+ghost use Rattle.chain.specs.Content.{content, chainOctets};
+ghost use Rattle.chain.specs.Field.{fieldsFrom};
+ghost use Rattle.chain.proofs.Roles.{Suits};
+ghost use Rattle.responder.specs.Answer.{answerTo, paddingOf};
+ghost use Rattle.responder.specs.Pass.{Lays, answersWith};
+
+// Writes a field whose data are n octets of `source` from `from` on, and answers the place after it.
+fn put_field(kind: u16, source: &[u8], from: usize, n: usize, out: &mut [u8], at: usize) -> usize
+    requires { ⌜ (n ≤ 512) × (from + n ≤ length (now source)) × (at + (4 + padded n) ≤ length (now out)) ⌝ }
+    ensures { λ r. ⌜ Lays (now (out .entry)) at (chainOctets (content kind (take n (drop from (now (source .entry)))) ∷ [])) r (now (out .exit)) ⌝ }
+{
+    let padded = (n + 3) / 4 * 4;
+    number::put16(out, at, kind);
+    number::put16(out, at + 2, n as u16 + 4);
+    part::copy(out, at + 4, source, from, n);
+    part::zero(out, at + 4 + n, padded - n);
+    at + 4 + padded
+}
+
+// How many octets of our name answer a name of k.
+fn name_octets(k: usize) -> usize
+    ensures { λ r. ⌜ r ≡ min k 27 ⌝ }
+{
+    if k < 27 { k } else { 27 }
+}
+
+// Writes what answers a field by its role, and answers the place after it.
+fn answer_to(
+    role: Role,
+    field: Field,
+    filter: &[u8],
+    information: &[u8],
+    out: &mut [u8],
+    at: usize,
+) -> usize
+    requires { ⌜ Suits field role × (length (now filter) ≡ 512) × (length (now information) ≡ 4)
+        × (at + (4 + padded (field .length)) ≤ length (now out)) ⌝ }
+    ensures { λ r. ⌜ Lays (now (out .entry)) at (chainOctets (answerTo (now (filter .entry)) (now (information .entry)) field role)) r (now (out .exit)) ⌝ }
+{
+    let n = field.length;
+    match role {
+        Role::FilterRequest(offset) => put_field(0xF504, filter, offset as usize, n, out, at),
+        Role::Information => put_field(0xF505, information, 0, 4, out, at),
+        Role::DraftName => put_field(0xF5FF, &DRAFT_NAME, 0, name_octets(n), out, at),
+        Role::Unknown => at,
+    }
+}
+
+// Writes the answers to the fields from the cursor on, and answers the place after them.
+pub(crate) fn answers(
+    cursor: Cursor,
+    request: &[u8],
+    met: Met,
+    filter: &[u8],
+    information: &[u8],
+    out: &mut [u8],
+    at: usize,
+) -> usize
+    requires { ⌜ (length (now filter) ≡ 512) × (length (now information) ≡ 4) × (length (now request) ≤ length (now out))
+        × (at ≤ cursor .at) × (cursor .at ≤ length (now request)) ⌝ }
+    ensures { λ r. ⌜ Lays (now (out .entry)) at
+        (chainOctets (answersWith (now (request .entry)) (now (filter .entry)) (now (information .entry)) met (fieldsFrom (now (request .entry)) (cursor .at))))
+        r (now (out .exit)) × (r ≤ length (now (request .entry))) ⌝ }
+{
+    let Step::Found(field, next) = cursor.step(request) else {
+        return at;
+    };
+    let kind = field.kind;
+    let role = role::role_of(request, field, met);
+    let reached = answer_to(role, field, filter, information, out, at);
+    answers(
+        next,
+        request,
+        role::met_after(met, kind),
+        filter,
+        information,
+        out,
+        reached,
+    )
+}
+
+// Fills what is left with one padding field.
+pub(crate) fn pad(out: &mut [u8], at: usize)
+    requires { ⌜ (at ≤ length (now out)) × (length (now out) ≤ 1280) × ((length (now out) - at) % 4 ≡ 0) ⌝ }
+    ensures { λ _. ⌜ now (out .exit) ≡ take at (now (out .entry)) ++ chainOctets (paddingOf (length (now (out .entry)) - at)) ⌝ }
+{
+    let n = out.len();
+    if at < n {
+        number::put16(out, at, 0xF501);
+        number::put16(out, at + 2, (n - at) as u16);
+        part::zero(out, at + 4, n - at - 4);
+    }
+}

@@ -1,0 +1,110 @@
+// The responder: the answer to a request, with the saved timestamps of interleaved mode.
+mod fields;
+mod reply;
+mod saved;
+
+use header::Reading;
+use header::ServerCookie;
+ghost use mathlib.Core.Path.{_≡_};
+ghost use mathlib.Core.Bool.{cond, _||_};
+ghost use Rattle.chain.specs.Chain.{soundRefusal};
+ghost use Rattle.store.specs.Row.{wrongStore};
+ghost use Rattle.responder.specs.Answer.{wrongArguments, outcome, answerOf};
+
+// What a server says of its clock in every answer.
+pub struct Server {
+    pub leap: u8,
+    pub stratum: u8,
+    pub poll: i8,
+    pub precision: i8,
+    pub timescale: u8,
+    pub era: u8,
+    pub flags: u16,
+    pub root_delay: u32,
+    pub root_dispersion: u32,
+}
+
+pub enum Answered {
+    // So many octets were written, as many as the request has.
+    Written(u16),
+    Refused(u8),
+}
+
+// Refusal 6, then 1 to 5, or 0.
+fn check(
+    store: &[u8],
+    request: &[u8],
+    filter: &[u8],
+    information: &[u8],
+    leap: u8,
+    receive: u64,
+    estimate: u64,
+) -> u8
+    ensures { λ r. ⌜ r ≡ cond (wrongStore (now (store .entry)) || wrongArguments (now (filter .entry)) (now (information .entry)) leap receive estimate) 6
+        (soundRefusal (now (request .entry)) 3) ⌝ }
+{
+    if store::check::wrong(store) {
+        return 6;
+    }
+    if (filter.len() != 512)
+        | (information.len() != 4)
+        | (3 < leap)
+        | (receive == 0)
+        | (estimate == 0)
+    {
+        return 6;
+    }
+    chain::sound(request, 3)
+}
+
+// Answers a request: the answer goes to the start of `out` and is as long as the request. `fresh` is looked at only where the request wants an
+// interleaved answer.
+pub fn answer(
+    store: &mut [u8],
+    request: &[u8],
+    receive: u64,
+    estimate: u64,
+    fresh: ServerCookie,
+    server: Server,
+    filter: &[u8],
+    information: &[u8],
+    out: &mut [u8],
+) -> Answered
+    ensures { λ r. ⌜ outcome r (now (out .exit)) (now (store .exit)) ≡ answerOf (record {
+      request = now (request .entry);
+      receive = receive;
+      estimate = estimate;
+      fresh = fresh .0;
+      server = server;
+      filter = now (filter .entry);
+      information = now (information .entry);
+    }) (now (store .entry)) (now (out .entry)) ⌝ }
+{
+    let number = check(
+        store,
+        request,
+        filter,
+        information,
+        server.leap,
+        receive,
+        estimate,
+    );
+    if number != 0 {
+        return Answered::Refused(number);
+    }
+    let Reading::Fields(asked) = header::read(request, 3) else {
+        return Answered::Refused(number);
+    };
+    if saved::wrong_fresh(store, asked, fresh) {
+        return Answered::Refused(8);
+    }
+    let n = request.len();
+    if out.len() < n {
+        return Answered::Refused(11);
+    }
+    let time = saved::time(store, asked);
+    let header = reply::header_of(server, asked, receive, estimate, fresh, time);
+    reply::write(header, request, filter, information, &mut out[0..n]);
+    saved::keep(store, asked, fresh, time);
+    Answered::Written(n as u16)
+}

@@ -1,0 +1,97 @@
+// The octets of an answer.
+use crate::Server;
+use crate::fields;
+use chain::cursor::Cursor;
+use chain::role;
+use header::Header;
+use header::ServerCookie;
+ghost use mathlib.Core.Path.{_≡_};
+ghost use mathlib.Core.Bool.{cond};
+ghost use mathlib.Core.List.{_++_};
+ghost use Prim.Native.Nat.{_+_, _-_, _*_, _/_, _%_, _≤_};
+ghost use lib.Dec.{eqb};
+ghost use lib.ListN.{length};
+ghost use Rattle.header.specs.Header.{octetsOf};
+ghost use Rattle.chain.specs.Chain.{soundRefusal};
+ghost use Rattle.chain.specs.Content.{chainOctets};
+ghost use Rattle.responder.specs.Answer.{wantsInterleaved, answerHeader, answerFields};
+
+// Flag 0x2 of a header: a request that wants an interleaved answer.
+pub(crate) fn wants_interleaved(asked: Header) -> bool
+    ensures { λ r. ⌜ r ≡ wantsInterleaved asked ⌝ }
+{
+    asked.flags / 2 % 2 == 1
+}
+
+fn either(first: bool, a: u64, b: u64) -> u64
+    ensures { λ r. ⌜ r ≡ cond first a b ⌝ }
+{
+    if first { a } else { b }
+}
+
+// The server's flags without 0x2, which is set where a saved time is sent.
+fn flags_of(flags: u16, saved: u64) -> u16
+    ensures { λ r. ⌜ r ≡ flags - flags / 2 % 2 * 2 + cond (eqb saved 0) 0 2 ⌝ }
+{
+    let kept = flags - flags / 2 % 2 * 2;
+    if saved == 0 { kept } else { kept + 2 }
+}
+
+// The header of an answer. A saved time of 0 is none: then the answer is basic.
+pub(crate) fn header_of(
+    server: Server,
+    asked: Header,
+    receive: u64,
+    estimate: u64,
+    fresh: ServerCookie,
+    saved: u64,
+) -> Header
+    ensures { λ r. ⌜ r ≡ answerHeader server asked receive estimate (fresh .0) saved ⌝ }
+{
+    let flags = flags_of(server.flags, saved);
+    let cookie = either(wants_interleaved(asked), fresh.0, 0);
+    let transmit = either(saved == 0, estimate, saved);
+    let client_cookie = asked.client_cookie;
+    Header {
+        leap: server.leap,
+        mode: 4,
+        stratum: server.stratum,
+        poll: server.poll,
+        precision: server.precision,
+        timescale: server.timescale,
+        era: server.era,
+        flags,
+        root_delay: server.root_delay,
+        root_dispersion: server.root_dispersion,
+        server_cookie: ServerCookie(cookie),
+        client_cookie,
+        receive,
+        transmit,
+    }
+}
+
+// Writes an answer to a sound request over `out`, which is as long.
+pub(crate) fn write(
+    header: Header,
+    request: &[u8],
+    filter: &[u8],
+    information: &[u8],
+    out: &mut [u8],
+)
+    requires { ⌜ (soundRefusal (now request) 3 ≡ 0) × (length (now filter) ≡ 512) × (length (now information) ≡ 4)
+        × (length (now out) ≡ length (now request)) × (header .leap ≤ 3) × (header .mode ≡ 4) ⌝ }
+    ensures { λ _. ⌜ now (out .exit) ≡ octetsOf header ++ chainOctets (answerFields (now (request .entry)) (now (filter .entry)) (now (information .entry))) ⌝ }
+{
+    header::write(header, out);
+    let first = Cursor { at: 48 };
+    let at = fields::answers(
+        first,
+        request,
+        role::none_met(),
+        filter,
+        information,
+        out,
+        48,
+    );
+    fields::pad(out, at);
+}

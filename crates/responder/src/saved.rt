@@ -1,0 +1,60 @@
+// What an answer has to do with the saved timestamps.
+use crate::reply::wants_interleaved;
+use header::Header;
+use header::ServerCookie;
+use octets::number;
+use store::row;
+ghost use mathlib.Core.Path.{_≡_};
+ghost use mathlib.Core.Bool.{false, cond};
+ghost use lib.Dec.{eqb};
+ghost use Rattle.store.specs.Row.{timeOf, without, sizeOf, rowOf, wrongStore, storeOctets};
+ghost use Rattle.responder.specs.Answer.{savedTime, wrongFresh, rowAfter};
+
+// Refusal 8: a fresh cookie is needed, and it is 0 or in the store.
+pub(crate) fn wrong_fresh(store: &[u8], asked: Header, fresh: ServerCookie) -> bool
+    requires { ⌜ wrongStore (now store) ≡ false ⌝ }
+    ensures { λ r. ⌜ r ≡ wrongFresh asked (fresh .0) (rowOf (now (store .entry))) ⌝ }
+{
+    if wants_interleaved(asked) {
+        let at = row::find(store, fresh);
+        return (fresh.0 == 0) | (at < store.len());
+    }
+    false
+}
+
+// The time that was reported for the cookie of a request that wants an interleaved answer, or 0.
+pub(crate) fn time(store: &[u8], asked: Header) -> u64
+    requires { ⌜ wrongStore (now store) ≡ false ⌝ }
+    ensures { λ r. ⌜ r ≡ savedTime asked (rowOf (now (store .entry))) ⌝ }
+{
+    if wants_interleaved(asked) {
+        let at = row::find(store, asked.server_cookie);
+        return number::get64(store, at + 8);
+    }
+    0
+}
+
+// The record whose time was sent leaves; a time of 0 was not.
+fn leave(store: &mut [u8], cookie: ServerCookie, time: u64)
+    requires { ⌜ (wrongStore (now store) ≡ false) × (time ≡ timeOf (cookie .0) (rowOf (now store))) ⌝ }
+    ensures { λ _. ⌜ now (store .exit) ≡ storeOctets (sizeOf (now (store .entry)))
+        (cond (eqb time 0) (rowOf (now (store .entry))) (without (cookie .0) (rowOf (now (store .entry))))) ⌝ }
+{
+    if time == 0 {
+        return;
+    }
+    let at = row::find(store, cookie);
+    row::remove(store, at);
+}
+
+// What an answer leaves: the record whose time was sent goes, and then the fresh cookie joins.
+pub(crate) fn keep(store: &mut [u8], asked: Header, fresh: ServerCookie, time: u64)
+    requires { ⌜ (wrongStore (now store) ≡ false) × (time ≡ savedTime asked (rowOf (now store))) ⌝ }
+    ensures { λ _. ⌜ now (store .exit) ≡ storeOctets (sizeOf (now (store .entry)))
+        (rowAfter asked (fresh .0) (sizeOf (now (store .entry))) (rowOf (now (store .entry)))) ⌝ }
+{
+    if wants_interleaved(asked) {
+        leave(store, asked.server_cookie, time);
+        row::join(store, fresh);
+    }
+}

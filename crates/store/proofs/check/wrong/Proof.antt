@@ -1,0 +1,108 @@
+-- `wrong` meets its contract: the records left to see decide, once the size is right. Assumes nothing.
+use mathlib.Core.Path.{_≡_, refl, sym, ap, _∙_}
+use mathlib.Core.Bool.{false, not}
+use Prim.Native.Nat.{_-_, _%_, _≤_}
+use native.Mathlib.Omega.{arith}
+use borrow.Author.Tests.{lt-ltb, le-ltb}
+use lib.ListN.{length}
+use borrow.Author.Needs.{needs}
+use Rattle.octets.proofs.Numbers.{got}
+use Rattle.store.specs.Row.{soundRecords}
+use Rattle.store.proofs.Stores.{right-size}
+use Rattle.store.proofs.Walks.{rest, sound-zero, sound-next, sound-end, wrong-by-size, wrong-by-records}
+use Rattle.store.proofs.check.wrong.Statement.{statement}
+use Rattle.store.proofs.check.wrong.Tie as tie
+
+abbrev Inv-loop : tie.InvT-loop
+Inv-loop store n at₀ at = (at % 16 ≡ 0) × (at ≤ length store) × (length store % 16 ≡ 0) × (soundRecords (rest store 0) ≡ soundRecords (rest store at))
+
+abbrev μ-loop : tie.MeasureT-loop
+μ-loop store n at₀ at = length store - at
+
+wrong-size-requires : tie.Need-wrong-size-requires Inv-loop μ-loop
+wrong-size-requires c κs = search needs
+
+returns : tie.Need-returns Inv-loop μ-loop
+returns c = sym (wrong-by-size _ (sym (c .before .wrong-size .ensures) ∙ c .if1 .taken))
+
+loop-holds : tie.Need-loop-holds Inv-loop μ-loop
+loop-holds c =
+    let s = c .before .before .before .args .store .now in
+    let z = right-size s (sym (c .before .wrong-size .ensures) ∙ c .if1 .left) in
+    (omega arith, omega arith, omega (arith, z .2), refl)
+
+get64-requires : tie.Need-get64-requires Inv-loop μ-loop
+get64-requires c κs = search needs
+
+unused-from-requires : tie.Need-unused-from-requires Inv-loop μ-loop
+unused-from-requires c κs = (omega arith, omega arith, omega arith)
+
+returns-2 : tie.Need-returns-2 Inv-loop μ-loop
+returns-2 c =
+    let l = c .before .before .before .before .loop in
+    let start = c .before .before .before .before .before .before in
+    let s = start .before .before .args .store .now in
+    let q = wrong-by-records s (sym (start .wrong-size .ensures) ∙ c .before .before .before .before .before .if1 .left) in
+    let g = got s (l .at) 8 _ (omega arith) (c .before .before .get64 .ensures) in
+    let e = sound-zero s (l .at) (omega arith) (sym g ∙ c .before .if2 .taken) in
+    ap not (c .unused-from .ensures ∙ sym (l .inv .3 ∙ e)) ∙ sym q
+
+add-find-from : tie.Need-add-find-from Inv-loop μ-loop
+add-find-from c = omega arith
+
+find-from-requires : tie.Need-find-from-requires Inv-loop μ-loop
+find-from-requires c κs = (omega arith, omega arith)
+
+returns-3 : tie.Need-returns-3 Inv-loop μ-loop
+returns-3 c =
+    let l = c .before .before .before .before .before .loop in
+    let start = c .before .before .before .before .before .before .before in
+    let s = start .before .before .args .store .now in
+    let q = wrong-by-records s (sym (start .wrong-size .ensures) ∙ c .before .before .before .before .before .before .if1 .left) in
+    let g = got s (l .at) 8 _ (omega arith) (c .before .before .before .get64 .ensures) in
+    let e = sound-next s (l .at) _ _ (omega arith) (omega arith) g (c .before .before .if2 .left) (c .before .find-from .ensures) in
+    let f : soundRecords (rest s 0) ≡ false = l .inv .3 ∙ e ∙ rw (lt-ltb _ _ (c .if3 .taken)) in
+    sym (q ∙ ap not f)
+
+add-at : tie.Need-add-at Inv-loop μ-loop
+add-at c = omega arith
+
+loop-less : tie.Need-loop-less Inv-loop μ-loop
+loop-less c = omega arith
+
+loop-again : tie.Need-loop-again Inv-loop μ-loop
+loop-again c =
+    let l = c .before .before .before .before .before .loop in
+    let start = c .before .before .before .before .before .before .before in
+    let s = start .before .before .args .store .now in
+    let g = got s (l .at) 8 _ (omega arith) (c .before .before .before .get64 .ensures) in
+    let e = sound-next s (l .at) _ _ (omega arith) (omega arith) g (c .before .before .if2 .left) (c .before .find-from .ensures) in
+    (omega arith, omega arith, omega arith, l .inv .3 ∙ e ∙ rw (le-ltb _ _ (c .if3 .left)))
+
+returns-4 : tie.Need-returns-4 Inv-loop μ-loop
+returns-4 c =
+    let l = c .before .loop in
+    let start = c .before .before .before in
+    let s = start .before .before .args .store .now in
+    let q = wrong-by-records s (sym (start .wrong-size .ensures) ∙ c .before .before .if1 .left) in
+    sym (q ∙ ap not (l .inv .3 ∙ sound-end s (l .at) (omega arith)))
+
+pub wrong-spec : {M : Type 1} → statement M
+wrong-spec =
+    tie.close
+    (tie.spec
+    Inv-loop
+    μ-loop
+    wrong-size-requires
+    returns
+    loop-holds
+    get64-requires
+    unused-from-requires
+    returns-2
+    add-find-from
+    find-from-requires
+    returns-3
+    add-at
+    loop-less
+    loop-again
+    returns-4)

@@ -1,0 +1,3 @@
+-- The responder's store of saved timestamps.
+pub mod Row
+pub mod Place
