@@ -6,8 +6,9 @@ use Prim.Native.Nat.{ℕ, _+_, _-_, _%_, _<_, _^_}
 use native.Mathlib.Omega.{arith}
 use lib.ListN.{length, getD, take, drop, replicate, length-append, length-replicate, getD-replicate, List·getD-append}
 use lib.Seq.{getD-append-add, take-at, drop-at}
-use Rattle.octets.specs.Number.{num, octets}
+use Rattle.octets.specs.Number.{Octets, num, octets}
 use Rattle.octets.proofs.Numbers.{num-at, length-octets}
+use Rattle.octets.proofs.Written.{both-octets, no-octets, zeros-octets, number-octets}
 use Rattle.chain.specs.Chain.{padded, allZero, stepAt, stepRefusal, Walk, walk, chainRefusal}
 use Rattle.chain.specs.Field.{fieldsFrom}
 use Rattle.chain.specs.Content.{Content, contentOctets, chainOctets, placed, contentsOf}
@@ -161,3 +162,21 @@ contents-placed p (c ∷ cs) at e =
 pub contents-written : (p : List ℕ) (cs : List Content) (at : ℕ) → length p ≡ at → AllFit cs
     → contentsOf (p ++ chainOctets cs) (fieldsFrom (p ++ chainOctets cs) at) ≡ cs
 contents-written p cs at e f = rw (fields-written p cs at e f) (contents-placed p cs at e)
+
+-- where the data are octets, so is the chain
+
+abbrev pub AllOctets : List Content → Type 0
+AllOctets [] = Unit {0}
+AllOctets (c ∷ cs) = Octets (dataOf c) × AllOctets cs
+
+pub chain-octets : (cs : List Content) → AllOctets cs → Octets (chainOctets cs)
+unfolding chainOctets
+chain-octets [] f = no-octets
+chain-octets (c ∷ cs) f =
+    let d = dataOf c in
+    let numbers = octets 2 (c .kind) ++ lengthOf c in
+    both-octets (contentOctets c) (chainOctets cs)
+    (both-octets (numbers ++ d) (zerosOf c)
+    (both-octets numbers d (both-octets (octets 2 (c .kind)) (lengthOf c) (number-octets 2 (c .kind)) (number-octets 2 (length d + 4))) (f .0))
+    (zeros-octets (padded (length d) - length d)))
+    (chain-octets cs (f .1))

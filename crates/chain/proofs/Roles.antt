@@ -3,7 +3,8 @@ use mathlib.Core.Path.{_≡_, refl, sym, ap, _∙_}
 use mathlib.Core.Bool.{Bool, true, false, cond, _&&_, _||_}
 use mathlib.Core.List.{List, [], _∷_, _++_}
 use Prim.Native.Nat.{ℕ, _+_, _%_, _≤_}
-use borrow.Author.Tests.{eqb-true, leb-true}
+use native.Mathlib.Omega.{arith}
+use borrow.Author.Tests.{eq-eqb, eqb-true, le-leb, leb-true}
 use lib.Dec.{eqb, leb}
 use Rattle.octets.specs.Number.{getAt}
 use Rattle.chain.specs.Role.{requestRole, firstRole, alreadyMet, roleOf, noneMet, metAfter, roleWith}
@@ -72,6 +73,12 @@ pub record Good (offset n : ℕ) : Type 0 where
   pub four : n % 4 ≡ 0
   pub least : 4 ≤ n
   pub inside : offset + n ≤ 512
+
+-- it has its role
+pub good-role : (offset n : ℕ) → Good offset n → requestRole offset n ≡ FilterRequest offset
+good-role offset n g =
+    let inside = g .inside in
+    rw (eq-eqb _ _ (g .four), le-leb _ _ (g .least), le-leb n 512 (omega arith), le-leb _ _ inside)
 
 -- what a field has to be for its role
 abbrev pub Suits : Field → Role → Type 0

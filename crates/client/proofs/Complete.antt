@@ -18,16 +18,15 @@ use Rattle.association.proofs.Chunks.{chunk-size}
 use Rattle.association.proofs.Reached.{GoodPlace, GoodOpened}
 use Rattle.association.proofs.Encoding.{count-of, count-le}
 use Rattle.order.specs.Order.{after}
-use Rattle.order.proofs.Simulate.{good-after}
-use Rattle.client.specs.Call.{Typed, plainAnswer, verdictAnswer}
+use Rattle.client.specs.Call.{plainAnswer, verdictAnswer}
 use Rattle.client.specs.Select.{Seen, wrongId, verdictFor}
 use Rattle.client.specs.Plain.{closedTable, seenPlace, atPlace, stepPlain}
 use Rattle.client.specs.Observe.{watched, chunksTaken}
 use Rattle.client.specs.Claim.{CompleteFilters}
-use Rattle.client.proofs.Tables.{GoodTable, good-start, good-at}
+use Rattle.client.proofs.Tables.{good-start, good-at}
 use Rattle.client.proofs.Simulate.{at-in}
 use Rattle.client.proofs.Observed.{Watching, Watched}
-use Rattle.client.proofs.Demand3.{simulates, run-watched, closed-watched}
+use Rattle.client.proofs.Demand3.{good-reached, run-watched, closed-watched}
 
 -- n chunks of c octets are 512 octets once there are 512/c of them
 enough : (n c : ℕ) → 512 % c ≡ 0 → 16 ≤ c → eqb (min 512 (n * c)) 512 ≡ leb (512 / c) n
@@ -58,7 +57,7 @@ pub complete-filters : CompleteFilters
 unfolding placeDo
 complete-filters cs ty a l o q =
     let ps = after stepPlain cs closedTable in
-    let good : GoodTable ps = good-after stepPlain Typed GoodTable (simulates .invariant) cs ty closedTable good-start in
+    let good = good-reached cs ty in
     let w : Watching o a (watched stepPlain cs closedTable []) = subst (λ (p : Place). Watched p a (watched stepPlain cs closedTable [])) q (run-watched cs closedTable [] ty good-start (closed-watched []) a l) in
     let g : GoodOpened o = subst GoodPlace q (good-at ps a (good .all)) in
     let size = chunk-size (o .chunk) (g .offers) in

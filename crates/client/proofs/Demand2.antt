@@ -18,19 +18,18 @@ use Rattle.exchange.proofs.Responses.{response-sound, response-fields, response
 use Rattle.header.specs.declared.ClientCookie.{ClientCookie}
 use Rattle.exchange.specs.declared.response.Response.{Response}
 use Rattle.association.specs.Rules.{plainReply}
-use Rattle.association.specs.Plain.{Outstanding, Opened, Place, closed, opened, received, placeDo}
+use Rattle.association.specs.Plain.{Outstanding, Opened, Place, closed, opened, received, replyOf, placeDo}
 use Rattle.association.specs.declared.event.Event.the-variants.{Receive}
 use Rattle.association.specs.declared.event.Reply.{Reply}
 use Rattle.association.proofs.Reached.{by-test, by-request, good-step}
 use Rattle.order.specs.Order.{after}
-use Rattle.order.proofs.Simulate.{good-after, simulated-end}
 use Rattle.client.specs.Call.{receive, Typed, Answer, plainAnswer, acceptedAnswer, receiveAnswer}
 use Rattle.client.specs.Octets.{stepOctets}
 use Rattle.client.specs.Plain.{closedTable, stepPlain, encodeAll}
 use Rattle.client.specs.Claim.{Acceptable, UsedUp, reached, refusalOn, Demand2}
-use Rattle.client.proofs.Tables.{GoodTable, good-start, good-put, good-at}
+use Rattle.client.proofs.Tables.{GoodTable, good-put, good-at}
 use Rattle.client.proofs.Simulate.{at-in, good-response}
-use Rattle.client.proofs.Demand3.{simulates, cleared-is}
+use Rattle.client.proofs.Demand3.{simulates, good-reached, reached-plain}
 
 -- ---- what a response tells of its datagram
 
@@ -94,16 +93,14 @@ module _ (datagram : List ℕ) (t4 : ℕ) (nonzero : t4 ≡ 0 → ⊥) where
       apart : (a b : Bool) → a && b ≡ false → a ≡ true → b ≡ true → ⊥
       apart a b e p q = let z : _≡_ {A = ℕ} 0 1 = cc in omega arith
 
-  all : (p : Place) → Acceptable p datagram → refusalAt (placeDo (Receive r) datagram p) ≡ 0
+  -- an acceptable response is answered by what it says, and saved
+  pub accepts : (p : Place) (h : Acceptable p datagram)
+      → placeDo (Receive r) datagram p ≡ (replyOf r (h .place) (h .request), opened (received r datagram (h .place) (h .request)))
   unfolding placeDo
-  all p h = subst⁻¹ (λ (q : Place). refusalAt (placeDo (Receive r) datagram q) ≡ 0) (h .open-sender) opens
+  accepts p h =
+      ap (placeDo (Receive r) datagram) (h .open-sender)
+      ∙ rw (late, eq-eqb _ _ (told datagram t4 .refusal ∙ h .sound), h .outstanding, eq-eqb _ _ (told datagram t4 .client (h .sound) ∙ h .repeats), inter)
     where
-      o : Opened
-      o = h .place
-
-      k : Outstanding
-      k = h .request
-
       closed-out : (a b : Bool) → (a ≡ true → b ≡ true → ⊥) → a && b ≡ false
       closed-out true true n = absurd (n refl refl)
       closed-out true false n = refl
@@ -112,9 +109,8 @@ module _ (datagram : List ℕ) (t4 : ℕ) (nonzero : t4 ≡ 0 → ⊥) where
       inter : r .interleaved && eqb (h .request .server) 0 ≡ false
       inter = closed-out (r .interleaved) (eqb (h .request .server) 0) (λ a b. h .interleaved (sym (told datagram t4 .interleaved (h .sound)) ∙ a) (eqb-true _ _ b))
 
-      opens : refusalAt (placeDo (Receive r) datagram (opened (h .place))) ≡ 0
-      opens =
-          rw (late, eq-eqb _ _ (told datagram t4 .refusal ∙ h .sound), h .outstanding, eq-eqb _ _ (told datagram t4 .client (h .sound) ∙ h .repeats), inter)
+  all : (p : Place) → Acceptable p datagram → refusalAt (placeDo (Receive r) datagram p) ≡ 0
+  all p h = ap refusalAt (accepts p h)
 
   used : (p : Place) → refusalAt (placeDo (Receive r) datagram p) ≡ 0 → UsedUp (placeDo (Receive r) datagram p .1)
   unfolding placeDo
@@ -158,8 +154,8 @@ demand2 t e cs ty a l datagram b t4 n h =
     let ps = after stepPlain cs closedTable in
     let p = getD ps a closed in
     let w = placeDo (Receive (responseOf datagram t4)) datagram p in
-    let good : GoodTable ps = good-after stepPlain Typed GoodTable (simulates .invariant) cs ty closedTable good-start in
-    let z : reached t cs ≡ encodeAll ps = rw (cleared-is t e) (simulated-end simulates cs ty closedTable good-start) in
+    let good = good-reached cs ty in
+    let z = reached-plain t e cs ty in
     let x : stepOctets (receive a datagram t4) (reached t cs) ≡ (receiveAnswer (w .0), encodeAll (set ps a (w .1))) = rw z (receive-on ps a datagram t4 good l b h) in
     let same : refusalOn (receive a datagram t4) (reached t cs) ≡ receiveAnswer (w .0) .refusal = ap (λ (u : Answer × List ℕ). u .0 .refusal) x in
     let m : a < length ps = omega (arith, good .sixteen) in

@@ -21,7 +21,7 @@ use Rattle.client.specs.Call.{Call, clearTable, openOne, closeOne, poll,
 use Rattle.client.specs.Octets.{tableOctets, clearOctets, stepOctets}
 use Rattle.client.specs.Plain.{closedTable, atPlace, stepPlain, encodeAll}
 use Rattle.client.specs.Observe.{Seen, done, watched}
-use Rattle.client.specs.Claim.{cleared, Demand3}
+use Rattle.client.specs.Claim.{cleared, reached, Demand3}
 use Rattle.client.proofs.Tables.{GoodTable, part-all, good-at, good-start, start-zeros}
 use Rattle.client.proofs.Simulate.{good-form, good-response, at-in, at-out, form-simulated}
 use Rattle.client.proofs.Commuting.{independent}
@@ -132,8 +132,22 @@ start t e = rw (eq-eqb _ _ e) (ap (λ (l : List ℕ). (plainAnswer 0 [], l)) (sy
 pub cleared-is : (t : List ℕ) → length t ≡ tableOctets → cleared t ≡ encodeAll closedTable
 cleared-is t e = ap (λ (w : Answer × List ℕ). w .1) (start t e)
 
+-- the plain table that calls lead to was reached
+pub good-reached : (cs : List (TaggedCall Call)) → EveryCall Typed cs → GoodTable (after stepPlain cs closedTable)
+good-reached cs ty = good-after stepPlain Typed GoodTable (simulates .invariant) cs ty closedTable good-start
+
+module _ (t : List ℕ) (e : length t ≡ tableOctets) (cs : List (TaggedCall Call)) (ty : EveryCall Typed cs) where
+  -- its octets are those of the table that they lead to
+  pub reached-plain : reached t cs ≡ encodeAll (after stepPlain cs closedTable)
+  reached-plain = rw (cleared-is t e) (simulated-end simulates cs ty closedTable good-start)
+
+  -- and one call more does there what it does on the plain table
+  pub call-reached : (c : Call) → Typed c → stepOctets c (reached t cs)
+      ≡ (stepPlain c (after stepPlain cs closedTable) .0, encodeAll (stepPlain c (after stepPlain cs closedTable) .1))
+  call-reached c h = rw reached-plain (simulates .agrees c (after stepPlain cs closedTable) h (good-reached cs ty))
+
 -- a filter octet of the table's octets
-octet-at : (ps : List Place) (a i : ℕ) → GoodTable ps → a < 16 → i < 512 → getD (encodeAll ps) (a * 640 + (128 + i)) 0 ≡ getD (placeFilter (getD ps a closed)) i 0
+pub octet-at : (ps : List Place) (a i : ℕ) → GoodTable ps → a < 16 → i < 512 → getD (encodeAll ps) (a * 640 + (128 + i)) 0 ≡ getD (placeFilter (getD ps a closed)) i 0
 octet-at ps a i g l m =
     let k : a < length ps = omega (arith, g .sixteen) in
     sym (getD-drop (a * 640) (encodeAll ps) (128 + i) 0)
@@ -145,11 +159,11 @@ pub demand3 : Demand3
 demand3 t e cs ty d =
     let z = cleared-is t e in
     let run = run-watched cs closedTable [] ty good-start (closed-watched []) in
-    let good = good-after stepPlain Typed GoodTable (simulates .invariant) cs ty closedTable good-start in
+    let good = good-reached cs ty in
     record {
       clearing = ap (λ (w : Answer × List ℕ). w .0) (start t e);
       answers-plain = rw z (simulated-answers simulates cs ty closedTable good-start);
-      ends-plain = rw z (simulated-end simulates cs ty closedTable good-start);
+      ends-plain = reached-plain t e cs ty;
       answers-kept = λ ds o tag. rw z (simulated-reordered-answers simulates independent o d ty closedTable good-start tag);
       ends-kept = λ ds o. rw z (simulated-reordered-end simulates independent o d ty closedTable good-start);
       filters = λ a l o q i m.

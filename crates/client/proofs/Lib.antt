@@ -3,7 +3,7 @@ pub mod Tables
 pub mod Simulate
 pub mod Commuting
 pub mod Observed
-mod Pasted
+pub mod Pasted
 pub mod Watch
 pub mod Demand3
 pub mod Demand2

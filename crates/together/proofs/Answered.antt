@@ -1,0 +1,91 @@
+-- What our responder answers to a poll of our client. Assumes nothing.
+use mathlib.Core.Path.{_≡_, refl, sym, ap, _∙_, subst}
+use mathlib.Core.Bool.{Bool, true, false, cond}
+use mathlib.Core.List.{List, [], _∷_, _++_}
+use Prim.Native.Nat.{ℕ, _+_, _-_, _*_, _/_, _%_, _^_, _<_, _≤_}
+use native.Mathlib.Omega.{arith}
+use borrow.Author.Tests.{eq-eqb, le-leb}
+use lib.Dec.{eqb}
+use lib.IntN.{ℤ}
+use lib.ListN.{length, take, drop}
+use Rattle.chain.specs.Field.{fieldsOf, firstOf}
+use Rattle.chain.specs.Content.{Content, content, chainOctets, placed, draftName}
+use Rattle.chain.specs.Role.{alreadyMet, roleOf}
+use Rattle.chain.specs.declared.cursor.Field.{Field}
+use Rattle.chain.specs.declared.role.Role.{Role}
+use Rattle.chain.specs.declared.role.Role.the-variants.{FilterRequest, DraftName}
+use Rattle.chain.specs.declared.find.Occurrence.{Occurrence}
+use Rattle.chain.specs.declared.find.Occurrence.the-variants.{At}
+use Rattle.chain.proofs.Roles.{Good, good-role}
+use Rattle.chain.proofs.Contents.{length-chain-cons, length-chain-one}
+use Rattle.exchange.specs.Request.{pollOctets}
+use Rattle.exchange.specs.declared.request.Asked.{Asked}
+use Rattle.exchange.proofs.Requests.{length-pollOctets}
+use Rattle.exchange.proofs.Polls.{nameField, requestField, poll-fields, poll-offset}
+use Rattle.responder.specs.Answer.{Given, answerTo, answersTo, paddingOf, answerFields, sentFields}
+use Rattle.responder.proofs.Room.{response-length}
+
+whole-name : take 27 draftName ≡ draftName
+unfolding draftName
+whole-name = refl
+
+name-size : length draftName ≡ 27
+unfolding draftName
+name-size = refl
+
+module _ (q : Asked) (cookie : ℕ) (exponent : ℤ) (interleaved : Bool) (good : Good (q .offset) (q .chunk)) where
+  abbrev polled : List ℕ
+  polled = pollOctets q cookie exponent interleaved
+
+  -- the fields of an answer to it: our whole name, and as many filter octets as were asked
+  abbrev pub answering : List ℕ → List Content
+  answering filter = content 0xF5FF draftName ∷ content 0xF504 (take (q .chunk) (drop (q .offset) filter)) ∷ []
+
+  polled-fields : fieldsOf polled ≡ nameField ∷ requestField (q .chunk) ∷ []
+  polled-fields =
+      let least = good .least in
+      let inside = good .inside in
+      poll-fields q cookie exponent interleaved (omega arith) (omega arith) (good .four)
+
+  pub polled-size : length polled ≡ 84 + q .chunk
+  polled-size = let least = good .least in length-pollOctets q cookie exponent interleaved (omega arith)
+
+  -- the first field is a draft name
+  name-role : roleOf polled [] nameField ≡ DraftName
+  unfolding roleOf alreadyMet
+  name-role = refl
+
+  -- the second is a good filter request
+  request-role : roleOf polled (nameField ∷ []) (requestField (q .chunk)) ≡ FilterRequest (q .offset)
+  unfolding roleOf alreadyMet
+  request-role =
+      let least = good .least in
+      let inside = good .inside in
+      let size = polled-size in
+      rw (le-leb 86 (length polled) (omega arith), poll-offset q cookie exponent interleaved (omega arith)) (good-role (q .offset) (q .chunk) good)
+
+  module _ (filter information : List ℕ) where
+    polled-answers : answersTo polled filter information [] (fieldsOf polled) ≡ answering filter
+    unfolding answersTo
+    polled-answers = rw (polled-fields, name-role, request-role, whole-name)
+
+    module _ (size : length filter ≡ 512) where
+      answering-size : length (chainOctets (answering filter)) ≡ 36 + q .chunk
+      answering-size =
+          let four = good .four in
+          omega (arith, name-size, response-length filter (q .offset) (q .chunk) size (good .inside), length-chain-cons (content 0xF5FF draftName) (content 0xF504 (take (q .chunk) (drop (q .offset) filter)) ∷ []), length-chain-one (content 0xF504 (take (q .chunk) (drop (q .offset) filter))))
+
+      -- they fill what stands after the header, so that no octet is left to pad
+      left : length polled - (48 + length (chainOctets (answering filter))) ≡ 0
+      left = omega (arith, polled-size, answering-size)
+
+      -- what is sent in answer to a poll
+      pub polled-sent : answerFields polled filter information ≡ answering filter
+      unfolding answerFields
+      polled-sent = rw (polled-answers, left)
+
+  -- the first filter response among the fields has as many octets as were asked
+  pub first-response : (filter : List ℕ) → length filter ≡ 512
+      → firstOf 0xF504 (placed 48 (answering filter)) ≡ At (record { kind = 0xF504; start = 84; length = q .chunk })
+  unfolding firstOf placed
+  first-response filter size = rw (name-size, response-length filter (q .offset) (q .chunk) size (good .inside))

@@ -1,0 +1,2 @@
+-- The laws of an exchange between our client and our responder. Assumes nothing.
+mod Answered

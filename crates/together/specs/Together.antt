@@ -1,0 +1,82 @@
+-- A poll of our client that our responder answers: the client accepts the answer and takes its chunk, which is the server's filter.
+use mathlib.Core.Path.{_≡_}
+use mathlib.Core.Bool.{Bool, true, false, not}
+use mathlib.Core.List.{List, _∷_, _++_}
+use Prim.Native.Nat.{ℕ, _+_, _*_, _^_, _≤_, _<_}
+use lib.Dec.{eqb}
+use lib.IntN.{ℤ}
+use lib.ListN.{length, getD, take}
+use Rattle.octets.specs.Number.{Octets, num}
+use Rattle.order.specs.Order.{TaggedCall, EveryCall}
+use Rattle.client.specs.Call.{Call, clearTable, openOne, closeOne, poll, sent, receive, loopVerdict, publish, Typed, Answer}
+use Rattle.client.specs.Octets.{tableOctets, stepOctets}
+use Rattle.client.specs.Claim.{reached}
+use Rattle.store.specs.Row.{rowOf}
+use Rattle.responder.specs.Answer.{Given, Outcome, answerOf}
+use Rattle.responder.specs.Claim.{InRange}
+
+-- calls since a table was cleared, then a poll, and the calls between it and the answer
+pub record Polling : Type 0 where
+  pub table : List ℕ
+  pub earlier : List (TaggedCall Call)
+  pub tag : ℕ
+  pub association : ℕ
+  pub cookie : ℕ
+  pub exponent : ℤ
+  pub interleaved : Bool
+  pub out : List ℕ
+  pub between : List (TaggedCall Call)
+
+abbrev pub pollOf : Polling → Call
+pollOf k = poll (k .association) (k .cookie) (k .exponent) (k .interleaved) (k .out)
+
+-- what the poll answers
+abbrev pub polled : Polling → Answer
+polled k = stepOctets (pollOf k) (reached (k .table) (k .earlier)) .0
+
+-- all calls before the answer comes
+abbrev pub callsOf : Polling → List (TaggedCall Call)
+callsOf k = k .earlier ++ (record { tag = k .tag; call = pollOf k } ∷ k .between)
+
+-- a call that leaves the request of a outstanding: it names another association, reports a send, or only reads
+abbrev pub leavesRequest : ℕ → Call → Bool
+leavesRequest a clearTable = false
+leavesRequest a (openOne b timescale c) = not (eqb b a)
+leavesRequest a (closeOne b) = not (eqb b a)
+leavesRequest a (poll b cookie exponent interleaved out) = not (eqb b a)
+leavesRequest a (sent b t1) = true
+leavesRequest a (receive b datagram t4) = not (eqb b a)
+leavesRequest a (loopVerdict b id) = true
+leavesRequest a (publish selected id out) = true
+
+-- the poll is not refused, and the calls after it leave its request outstanding
+pub record Asks (k : Polling) : Type 0 where
+  pub size : length (k .table) ≡ tableOctets
+  pub typed : EveryCall Typed (callsOf k)
+  pub taken : polled k .refusal ≡ 0
+  pub outstanding : EveryCall (λ c. leavesRequest (k .association) c ≡ true) (k .between)
+
+-- an answer to the octets that the poll wrote, on any store and output, is not refused
+pub record Answers (k : Polling) (g : Given) (store out : List ℕ) : Type 0 where
+  pub request : g .request ≡ take (polled k .length) (polled k .out)
+  pub range : InRange g (rowOf store)
+  pub filter : Octets (g .filter)
+  pub stored : Octets store
+  pub taken : answerOf g store out .refusal ≡ 0
+
+-- the octets that an answer wrote
+abbrev pub replyOf : Outcome → List ℕ
+replyOf w = take (w .length) (w .out)
+
+-- what receiving them answers, and the table that it leaves
+abbrev pub received : Polling → List ℕ → ℕ → Answer × List ℕ
+received k datagram t4 = stepOctets (receive (k .association) datagram t4) (reached (k .table) (callsOf k))
+
+pub record Exchanged (k : Polling) (g : Given) (store out : List ℕ) (t4 : ℕ) : Type 0 where
+  -- the client accepts the answer
+  pub accepted : received k (replyOf (answerOf g store out)) t4 .0 .refusal ≡ 0
+  -- and takes its chunk
+  pub taken : received k (replyOf (answerOf g store out)) t4 .0 .chunk ≡ 1
+
+abbrev pub Together : Type 0
+Together = (k : Polling) → Asks k → (g : Given) (store out : List ℕ) → Answers k g store out → (t4 : ℕ) → (t4 ≡ 0 → ⊥) → t4 < 2 ^ 64 → Exchanged k g store out t4
