@@ -1,17 +1,18 @@
 -- Where an answer is not refused: its request and arguments are accepted, and the times of its row are of 64 bits. Assumes nothing.
-use mathlib.Core.Path.{_≡_, refl}
+use mathlib.Core.Path.{_≡_, refl, sym}
 use mathlib.Core.Bool.{Bool, true, false, cond, not, _||_}
-use mathlib.Core.List.{List, [], _∷_}
+use mathlib.Core.List.{List, [], _∷_, _++_}
 use Prim.Native.Nat.{ℕ, zero, suc, _+_, _<_, _^_}
 use native.Mathlib.Omega.{arith}
-use borrow.Author.Tests.{ltb-false, eqb-true, ne-eqb, not-false}
+use borrow.Author.Tests.{ltb-false, eq-eqb, eqb-true, ne-eqb, not-false}
 use lib.Dec.{eqb, lit<}
+use lib.ListN.{length, drop}
 use Rattle.octets.specs.Number.{Octets, num}
 use Rattle.octets.proofs.Numbers.{num-lt}
 use Rattle.chain.specs.Chain.{soundRefusal}
-use Rattle.store.specs.Row.{Record, timeOf, recordsFrom, unused, usedOf, rowOf, wrongStore}
+use Rattle.store.specs.Row.{Record, timeOf, recordsFrom, unused, usedOf, rowOf, storeOctets, sizeOf, wrongStore}
 use Rattle.store.proofs.Rows.{or-none}
-use Rattle.responder.specs.Answer.{Given, wrongArguments, wrongFresh, answerRefusal, asking, sentFields}
+use Rattle.responder.specs.Answer.{Given, Outcome, wrongArguments, wrongFresh, answerRefusal, answerOctets, answerOf, rowAfter, asking}
 use Rattle.responder.specs.Claim.{Accepted, InRange, AnswerClaim}
 use Rattle.responder.proofs.Answers.{either, answer-claim}
 
@@ -51,6 +52,32 @@ answer-fresh g store out e =
     let first = not-given (wrongStore store || wrong) 5 _ e in
     let second = request-passes (soundRefusal (g .request) 3) _ (first .1) in
     not-given (wrongFresh (asking g) (g .fresh) (rowOf store)) 7 _ (second .1) .0
+
+-- and its store is not wrong
+pub answer-stored : (g : Given) (store out : List ℕ) → answerRefusal g store out ≡ 0 → wrongStore store ≡ false
+unfolding answerRefusal
+answer-stored g store out e =
+    let wrong = wrongArguments (g .filter) (g .information) (g .server .leap) (g .receive) (g .estimate) in
+    or-none (wrongStore store) wrong (not-given (wrongStore store || wrong) 5 _ e .0) .0
+
+-- what an answer returns where its refusal is 0
+pub answer-written : (g : Given) (store out : List ℕ) → answerRefusal g store out ≡ 0 → answerOf g store out ≡ record {
+  refusal = 0;
+  length = length (g .request);
+  out = answerOctets g (rowOf store) ++ drop (length (g .request)) out;
+  store = storeOctets (sizeOf store) (rowAfter (asking g) (g .fresh) (sizeOf store) (rowOf store));
+}
+unfolding answerOf
+answer-written g store out e = rw (eq-eqb _ _ e)
+
+-- the number that an answer returns is its refusal
+pub answer-number : (g : Given) (store out : List ℕ) → answerOf g store out .refusal ≡ answerRefusal g store out
+unfolding answerOf
+answer-number g store out = go (answerRefusal g store out) _ refl _ refl
+  where
+    go : (n : ℕ) (w : Outcome) → w .refusal ≡ 0 → (v : Outcome) → v .refusal ≡ n → cond {A = Outcome} (eqb n 0) w v .refusal ≡ n
+    go zero w e v f = e
+    go (suc n) w e v f = rw (ne-eqb (suc n) 0 (λ e. omega arith)) f
 
 -- the times of the records that a store has
 

@@ -9,7 +9,7 @@ use lib.Dec.{eqb}
 use lib.IntN.{ℤ}
 use lib.ListN.{length, take, drop}
 use Rattle.chain.specs.Field.{fieldsOf, firstOf}
-use Rattle.chain.specs.Content.{Content, content, chainOctets, placed, draftName}
+use Rattle.chain.specs.Content.{Content, content, chainOctets, contentsOf, placed, draftName}
 use Rattle.chain.specs.Role.{alreadyMet, roleOf}
 use Rattle.chain.specs.declared.cursor.Field.{Field}
 use Rattle.chain.specs.declared.role.Role.{Role}
@@ -33,13 +33,27 @@ name-size : length draftName ≡ 27
 unfolding draftName
 name-size = refl
 
+-- the chunk that is asked of a filter
+abbrev pub chunkAsked : Asked → List ℕ → List ℕ
+chunkAsked q filter = take (q .chunk) (drop (q .offset) filter)
+
+-- the fields of an answer to a poll: our whole name, and as many filter octets as were asked
+abbrev pub answering : Asked → List ℕ → List Content
+answering q filter = content 0xF5FF draftName ∷ content 0xF504 (chunkAsked q filter) ∷ []
+
+-- the field that holds a chunk of c octets
+abbrev pub chunkField : ℕ → Field
+chunkField c = record { kind = 0xF504; start = 84; length = c }
+
+-- the data of the second field
+abbrev second : List Content → List ℕ
+second [] = []
+second (c ∷ []) = []
+second (c ∷ d ∷ cs) = d .«data»
+
 module _ (q : Asked) (cookie : ℕ) (exponent : ℤ) (interleaved : Bool) (good : Good (q .offset) (q .chunk)) where
   abbrev polled : List ℕ
   polled = pollOctets q cookie exponent interleaved
-
-  -- the fields of an answer to it: our whole name, and as many filter octets as were asked
-  abbrev pub answering : List ℕ → List Content
-  answering filter = content 0xF5FF draftName ∷ content 0xF504 (take (q .chunk) (drop (q .offset) filter)) ∷ []
 
   polled-fields : fieldsOf polled ≡ nameField ∷ requestField (q .chunk) ∷ []
   polled-fields =
@@ -65,27 +79,36 @@ module _ (q : Asked) (cookie : ℕ) (exponent : ℤ) (interleaved : Bool) (good 
       rw (le-leb 86 (length polled) (omega arith), poll-offset q cookie exponent interleaved (omega arith)) (good-role (q .offset) (q .chunk) good)
 
   module _ (filter information : List ℕ) where
-    polled-answers : answersTo polled filter information [] (fieldsOf polled) ≡ answering filter
+    polled-answers : answersTo polled filter information [] (fieldsOf polled) ≡ answering q filter
     unfolding answersTo
     polled-answers = rw (polled-fields, name-role, request-role, whole-name)
 
     module _ (size : length filter ≡ 512) where
-      answering-size : length (chainOctets (answering filter)) ≡ 36 + q .chunk
+      chunk-size : length (chunkAsked q filter) ≡ q .chunk
+      chunk-size = response-length filter (q .offset) (q .chunk) size (good .inside)
+
+      answering-size : length (chainOctets (answering q filter)) ≡ 36 + q .chunk
       answering-size =
           let four = good .four in
-          omega (arith, name-size, response-length filter (q .offset) (q .chunk) size (good .inside), length-chain-cons (content 0xF5FF draftName) (content 0xF504 (take (q .chunk) (drop (q .offset) filter)) ∷ []), length-chain-one (content 0xF504 (take (q .chunk) (drop (q .offset) filter))))
+          let response = content 0xF504 (chunkAsked q filter) in
+          omega (arith, name-size, chunk-size, length-chain-cons (content 0xF5FF draftName) (response ∷ []), length-chain-one response)
 
       -- they fill what stands after the header, so that no octet is left to pad
-      left : length polled - (48 + length (chainOctets (answering filter))) ≡ 0
+      left : length polled - (48 + length (chainOctets (answering q filter))) ≡ 0
       left = omega (arith, polled-size, answering-size)
 
       -- what is sent in answer to a poll
-      pub polled-sent : answerFields polled filter information ≡ answering filter
+      pub polled-sent : answerFields polled filter information ≡ answering q filter
       unfolding answerFields
       polled-sent = rw (polled-answers, left)
 
-  -- the first filter response among the fields has as many octets as were asked
-  pub first-response : (filter : List ℕ) → length filter ≡ 512
-      → firstOf 0xF504 (placed 48 (answering filter)) ≡ At (record { kind = 0xF504; start = 84; length = q .chunk })
-  unfolding firstOf placed
-  first-response filter size = rw (name-size, response-length filter (q .offset) (q .chunk) size (good .inside))
+      -- its first filter response has as many octets as were asked
+      pub first-response : firstOf 0xF504 (placed 48 (answering q filter)) ≡ At (chunkField (q .chunk))
+      unfolding firstOf placed
+      first-response = rw (name-size, chunk-size)
+
+      -- which are its data
+      pub second-data : (s : List ℕ) → contentsOf s (placed 48 (answering q filter)) ≡ answering q filter
+          → take (q .chunk) (drop 84 s) ≡ chunkAsked q filter
+      unfolding contentsOf placed
+      second-data s e = rw (name-size, chunk-size) at (ap second e)

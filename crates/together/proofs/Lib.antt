@@ -1,2 +1,3 @@
 -- The laws of an exchange between our client and our responder. Assumes nothing.
 mod Answered
+mod Served
