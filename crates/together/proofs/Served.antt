@@ -55,6 +55,10 @@ pub record Serves (q : Asked) (cookie : ℕ) (filter datagram : List ℕ) : Type
 flag-clear : (flags : ℕ) → interleavedFlag (flags - flags / 2 % 2 * 2 + 0) ≡ false
 flag-clear flags = ne-eqb ((flags - flags / 2 % 2 * 2 + 0) / 2 % 2) 1 (λ e. omega arith)
 
+header-octets : (h : Header) → Octets (octetsOf h)
+unfolding octetsOf
+header-octets h = spelled-octets (layout h)
+
 -- whichever way
 both-zero : (b : Bool) → cond {A = ℕ} b 0 0 ≡ 0
 both-zero true = refl
@@ -92,9 +96,10 @@ module _ (q : Asked) (cookie : ℕ) (exponent : ℤ) (interleaved : Bool) (k : R
 
     -- the answer is octets
     answer-octets : Octets (g .filter) → Octets answer
-    unfolding answerOctets octetsOf
+    unfolding answerOctets
     answer-octets f =
-        both-octets _ (chainOctets (sentFields g)) (spelled-octets (layout (sentHeader g (rowOf store))))
+        let h = sentHeader g (rowOf store) in
+        both-octets (octetsOf h) (chainOctets (sentFields g)) (header-octets h)
         (rw fields (chain-octets (answering q (g .filter)) (name-octets, (take-octets (q .chunk) _ (drop-octets (q .offset) (g .filter) f), tt))))
 
     -- and interleaved only if the request sent a server cookie
