@@ -8,6 +8,7 @@ use native.Mathlib.Omega.{arith}
 use borrow.Author.Tests.{lt-ltb, le-ltb, ltb-true, ltb-false, eq-eqb}
 use lib.Dec.{eqb, ltb}
 use lib.ListN.{length, drop, getD, set}
+use lib.Seq.{getD-set-other}
 use Rattle.octets.specs.Number.{Octets}
 use Rattle.filter.specs.Filter.{fresh, union}
 use Rattle.header.specs.Header.{headerOf}
@@ -87,6 +88,14 @@ module _ (a : ℕ) (e : Event) (datagram : List ℕ) (ps : List Place) where
   pub at-out : 16 ≤ a → atPlace a e datagram ps ≡ (plainReply 6, ps)
   unfolding atPlace
   at-out h = rw (le-ltb a 16 h)
+
+  -- the other places stay
+  pub at-other : (b : ℕ) → (b ≡ a → ⊥) → getD (atPlace a e datagram ps .1) b closed ≡ getD ps b closed
+  at-other b n = go (ltb a 16) refl
+    where
+      go : (t : Bool) → ltb a 16 ≡ t → getD (atPlace a e datagram ps .1) b closed ≡ getD ps b closed
+      go true t = rw (at-in (ltb-true a 16 t)) (getD-set-other ps a b (placeDo e datagram (getD ps a closed) .1) closed n)
+      go false t = rw (at-out (ltb-false a 16 t))
 
   module _ (g : GoodTable ps) (k : GoodEvent e datagram) where
     inside : a < 16 → atOctets a e datagram (encodeAll ps) ≡ (atPlace a e datagram ps .0, encodeAll (atPlace a e datagram ps .1))

@@ -1,3 +1,4 @@
 -- The laws of an exchange between our client and our responder. Assumes nothing.
 mod Answered
 mod Served
+mod Waiting
