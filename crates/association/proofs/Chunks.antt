@@ -8,11 +8,12 @@ use borrow.Author.Tests.{eqb-true}
 use lib.Dec.{eqb}
 use Rattle.association.specs.Rules.{offered}
 
--- a chunk size that is offered divides the filter
+-- a chunk size that is offered divides the filter, and is a multiple of four
 pub record ChunkSize (c : ℕ) : Type 0 where
   pub low : 16 ≤ c
   pub high : c ≤ 512
   pub whole : 512 % c ≡ 0
+  pub fours : c % 4 ≡ 0
 
 or-cases : {P : Type 0} (a b : Bool) → (a ≡ true → P) → (b ≡ true → P) → (a || b) ≡ true → P
 or-cases true b f g h = f refl
@@ -27,10 +28,10 @@ offered-cases P p₁ p₂ p₃ p₄ p₅ p₆ c =
     is n p e = subst P (sym (eqb-true c n e)) p
 
 pub chunk-size : (c : ℕ) → offered c ≡ true → ChunkSize c
-chunk-size = offered-cases ChunkSize (size 16 (omega arith) (omega arith) refl) (size 32 (omega arith) (omega arith) refl) (size 64 (omega arith) (omega arith) refl) (size 128 (omega arith) (omega arith) refl) (size 256 (omega arith) (omega arith) refl) (size 512 (omega arith) (omega arith) refl)
+chunk-size = offered-cases ChunkSize (size 16 (omega arith) (omega arith) refl refl) (size 32 (omega arith) (omega arith) refl refl) (size 64 (omega arith) (omega arith) refl refl) (size 128 (omega arith) (omega arith) refl refl) (size 256 (omega arith) (omega arith) refl refl) (size 512 (omega arith) (omega arith) refl refl)
   where
-    size : (n : ℕ) → 16 ≤ n → n ≤ 512 → 512 % n ≡ 0 → ChunkSize n
-    size n l h w = record { low = l; high = h; whole = w }
+    size : (n : ℕ) → 16 ≤ n → n ≤ 512 → 512 % n ≡ 0 → n % 4 ≡ 0 → ChunkSize n
+    size n l h w f = record { low = l; high = h; whole = w; fours = f }
 
 -- offsets: multiples of c below 512, so that a chunk fits
 pub record ChunkOffset (c at : ℕ) : Type 0 where

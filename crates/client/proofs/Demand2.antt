@@ -23,7 +23,7 @@ use Rattle.association.specs.declared.event.Event.the-variants.{Receive}
 use Rattle.association.specs.declared.event.Reply.{Reply}
 use Rattle.association.proofs.Reached.{by-test, by-request, good-step}
 use Rattle.order.specs.Order.{after}
-use Rattle.client.specs.Call.{receive, Typed, Answer, plainAnswer, acceptedAnswer, receiveAnswer}
+use Rattle.client.specs.Call.{receive, Answer, plainAnswer, acceptedAnswer, receiveAnswer}
 use Rattle.client.specs.Octets.{stepOctets}
 use Rattle.client.specs.Plain.{closedTable, stepPlain, encodeAll}
 use Rattle.client.specs.Claim.{Acceptable, UsedUp, reached, refusalOn, Demand2}

@@ -1,20 +1,17 @@
 -- What our responder answers to a poll of our client. Assumes nothing.
-use mathlib.Core.Path.{_≡_, refl, sym, ap, _∙_, subst}
-use mathlib.Core.Bool.{Bool, true, false, cond}
-use mathlib.Core.List.{List, [], _∷_, _++_}
-use Prim.Native.Nat.{ℕ, _+_, _-_, _*_, _/_, _%_, _^_, _<_, _≤_}
+use mathlib.Core.Path.{_≡_, refl, ap}
+use mathlib.Core.Bool.{Bool}
+use mathlib.Core.List.{List, [], _∷_}
+use Prim.Native.Nat.{ℕ, _+_, _-_}
 use native.Mathlib.Omega.{arith}
-use borrow.Author.Tests.{eq-eqb, le-leb}
-use lib.Dec.{eqb}
+use borrow.Author.Tests.{le-leb}
 use lib.IntN.{ℤ}
 use lib.ListN.{length, take, drop}
 use Rattle.chain.specs.Field.{fieldsOf, firstOf}
 use Rattle.chain.specs.Content.{Content, content, chainOctets, contentsOf, placed, draftName}
 use Rattle.chain.specs.Role.{alreadyMet, roleOf}
 use Rattle.chain.specs.declared.cursor.Field.{Field}
-use Rattle.chain.specs.declared.role.Role.{Role}
 use Rattle.chain.specs.declared.role.Role.the-variants.{FilterRequest, DraftName}
-use Rattle.chain.specs.declared.find.Occurrence.{Occurrence}
 use Rattle.chain.specs.declared.find.Occurrence.the-variants.{At}
 use Rattle.chain.proofs.Roles.{Good, good-role}
 use Rattle.chain.proofs.Contents.{length-chain-cons, length-chain-one}
@@ -22,7 +19,7 @@ use Rattle.exchange.specs.Request.{pollOctets}
 use Rattle.exchange.specs.declared.request.Asked.{Asked}
 use Rattle.exchange.proofs.Requests.{length-pollOctets}
 use Rattle.exchange.proofs.Polls.{nameField, requestField, poll-fields, poll-offset}
-use Rattle.responder.specs.Answer.{Given, answerTo, answersTo, paddingOf, answerFields, sentFields}
+use Rattle.responder.specs.Answer.{answersTo, answerFields}
 use Rattle.responder.proofs.Room.{response-length}
 
 whole-name : take 27 draftName ≡ draftName

@@ -1,7 +1,7 @@
 -- What a client finds in our responder's answer to its poll. Assumes nothing.
 use mathlib.Core.Path.{_≡_, refl, sym, ap, _∙_}
-use mathlib.Core.Bool.{Bool, true, false, cond, not, true≢false, false≢true}
-use mathlib.Core.List.{List, [], _∷_, _++_}
+use mathlib.Core.Bool.{Bool, true, false, cond, true≢false}
+use mathlib.Core.List.{List, []}
 use Prim.Native.Nat.{ℕ, _+_, _-_, _*_, _/_, _%_, _^_, _<_}
 use native.Mathlib.Omega.{arith}
 use borrow.Author.Tests.{eq-eqb, ne-eqb}
@@ -14,17 +14,20 @@ use Rattle.octets.specs.Number.{Octets}
 use Rattle.octets.proofs.Written.{both-octets, take-octets, drop-octets, spelled-octets}
 use Rattle.header.specs.Header.{headerOf, octetsOf, layout, interleavedFlag}
 use Rattle.header.specs.declared.Header.{Header}
-use Rattle.header.specs.declared.ClientCookie.{ClientCookie}
 use Rattle.chain.specs.Chain.{soundRefusal}
 use Rattle.chain.specs.Field.{fieldsOf, firstOf}
-use Rattle.chain.specs.Content.{Content, contentsOf, chainOctets, placed, draftName}
-use Rattle.chain.specs.declared.cursor.Field.{Field}
+use Rattle.chain.specs.Content.{contentsOf, chainOctets, placed}
+use Rattle.chain.specs.declared.find.Occurrence.{Occurrence}
 use Rattle.chain.specs.declared.find.Occurrence.the-variants.{At}
 use Rattle.chain.proofs.Roles.{Good}
 use Rattle.chain.proofs.Contents.{chain-octets, name-octets}
 use Rattle.exchange.specs.Request.{pollHeader, pollOctets}
+use Rattle.exchange.specs.Response.{withChunk, responseOf}
+use Rattle.exchange.specs.Judging.{outcomeOf}
 use Rattle.exchange.specs.declared.request.Asked.{Asked}
 use Rattle.exchange.proofs.Polls.{poll-header-read}
+use Rattle.exchange.proofs.Responses.{response-accepted}
+use Rattle.association.specs.Plain.{chunkOf}
 use Rattle.store.specs.Row.{Record, timeOf, rowOf}
 use Rattle.store.proofs.Rows.{SoundRow, time-absent}
 use Rattle.store.proofs.Changed.{held-zero}
@@ -121,3 +124,18 @@ module _ (q : Asked) (cookie : ℕ) (exponent : ℤ) (interleaved : Bool) (k : R
           second-data q cookie exponent interleaved (k .good) (g .filter) (g .information) size answer
           (ap (contentsOf answer) (sym places) ∙ claim .contents ∙ fields);
     }
+
+-- ---- the answer as a response
+
+module _ (q : Asked) (cookie : ℕ) (filter datagram : List ℕ) (t4 : ℕ) (s : Serves q cookie filter datagram) where
+  -- it has the chunk that was asked
+  pub response-served : responseOf datagram t4 ≡ withChunk (At (chunkField (q .chunk))) (headerOf datagram) t4
+  response-served = response-accepted datagram t4 (s .sound) ∙ ap (λ (o : Occurrence). withChunk o (headerOf datagram) t4) (s .first)
+
+  -- which is taken
+  pub chunk-taken : (c : ℕ) → c ≡ q .chunk → outcomeOf (responseOf datagram t4) c ≡ 1
+  chunk-taken c e = rw (response-served, eq-eqb (q .chunk) c (sym e))
+
+  -- with the filter's octets
+  pub chunk-octets : chunkOf (responseOf datagram t4) datagram ≡ chunkAsked q filter
+  chunk-octets = rw response-served (s .chunk)

@@ -1,16 +1,16 @@
 -- A poll's request is outstanding, and stays so until its answer comes. Assumes nothing.
 use mathlib.Core.Path.{_≡_, refl, sym, ap, _∙_, subst, subst⁻¹}
-use mathlib.Core.Bool.{Bool, true, false, cond, not, _||_}
+use mathlib.Core.Bool.{Bool, true, false, not, _||_}
 use mathlib.Core.List.{List, [], _∷_}
 use mathlib.Core.Option.{some}
-use Prim.Native.Nat.{ℕ, _+_, _<_, _≤_}
+use Prim.Native.Nat.{ℕ, _+_, _<_}
 use native.Mathlib.Omega.{arith}
-use borrow.Author.Tests.{eqb-true, eqb-false, ltb-false, not-true}
+use borrow.Author.Tests.{eqb-true, eqb-false, not-true}
 use lib.Dec.{eqb, ltb}
 use lib.ListN.{length, getD, set}
 use lib.Seq.{getD-set-same}
 use Rattle.exchange.specs.declared.request.Asked.{Asked}
-use Rattle.association.specs.Rules.{plainReply, pollReply}
+use Rattle.association.specs.Rules.{pollReply}
 use Rattle.association.specs.Plain.{Outstanding, Opened, Place, closed, opened, polled, reported, sentCookie, isLast, placeDo}
 use Rattle.association.specs.declared.event.Event.{Event}
 use Rattle.association.specs.declared.event.Event.the-variants.{Poll, Sent}

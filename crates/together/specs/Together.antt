@@ -2,7 +2,7 @@
 use mathlib.Core.Path.{_≡_}
 use mathlib.Core.Bool.{Bool, true, false, not}
 use mathlib.Core.List.{List, _∷_, _++_}
-use Prim.Native.Nat.{ℕ, _+_, _*_, _^_, _≤_, _<_}
+use Prim.Native.Nat.{ℕ, _+_, _-_, _*_, _^_, _≤_, _<_}
 use lib.Dec.{eqb}
 use lib.IntN.{ℤ}
 use lib.ListN.{length, getD, take}
@@ -33,6 +33,13 @@ pollOf k = poll (k .association) (k .cookie) (k .exponent) (k .interleaved) (k .
 -- what the poll answers
 abbrev pub polled : Polling → Answer
 polled k = stepOctets (pollOf k) (reached (k .table) (k .earlier)) .0
+
+-- how many filter octets it asks for, and the offset that it asks, at octet 84 of what it wrote
+abbrev pub chunkOf : Polling → ℕ
+chunkOf k = polled k .length - 84
+
+abbrev pub offsetOf : Polling → ℕ
+offsetOf k = num (polled k .out) 84 2
 
 -- all calls before the answer comes
 abbrev pub callsOf : Polling → List (TaggedCall Call)
@@ -65,18 +72,21 @@ pub record Answers (k : Polling) (g : Given) (store out : List ℕ) : Type 0 whe
   pub taken : answerOf g store out .refusal ≡ 0
 
 -- the octets that an answer wrote
-abbrev pub replyOf : Outcome → List ℕ
-replyOf w = take (w .length) (w .out)
+abbrev pub sentBy : Outcome → List ℕ
+sentBy w = take (w .length) (w .out)
 
 -- what receiving them answers, and the table that it leaves
-abbrev pub received : Polling → List ℕ → ℕ → Answer × List ℕ
-received k datagram t4 = stepOctets (receive (k .association) datagram t4) (reached (k .table) (callsOf k))
+abbrev pub receiving : Polling → List ℕ → ℕ → Answer × List ℕ
+receiving k datagram t4 = stepOctets (receive (k .association) datagram t4) (reached (k .table) (callsOf k))
 
 pub record Exchanged (k : Polling) (g : Given) (store out : List ℕ) (t4 : ℕ) : Type 0 where
   -- the client accepts the answer
-  pub accepted : received k (replyOf (answerOf g store out)) t4 .0 .refusal ≡ 0
+  pub accepted : receiving k (sentBy (answerOf g store out)) t4 .0 .refusal ≡ 0
   -- and takes its chunk
-  pub taken : received k (replyOf (answerOf g store out)) t4 .0 .chunk ≡ 1
+  pub taken : receiving k (sentBy (answerOf g store out)) t4 .0 .chunk ≡ 1
+  -- its filter has the server's octets there
+  pub filter : (i : ℕ) → offsetOf k ≤ i → i < offsetOf k + chunkOf k
+      → getD (receiving k (sentBy (answerOf g store out)) t4 .1) (k .association * 640 + (128 + i)) 0 ≡ getD (g .filter) i 0
 
 abbrev pub Together : Type 0
 Together = (k : Polling) → Asks k → (g : Given) (store out : List ℕ) → Answers k g store out → (t4 : ℕ) → (t4 ≡ 0 → ⊥) → t4 < 2 ^ 64 → Exchanged k g store out t4

@@ -1,0 +1,173 @@
+-- The client accepts our responder's answer to its poll, and takes its chunk. Assumes nothing.
+use mathlib.Core.Path.{_≡_, sym, ap, _∙_, subst}
+use mathlib.Core.List.{List, []}
+use Prim.Native.Nat.{ℕ, _+_, _-_, _*_, _^_, _≤_, _<_}
+use native.Mathlib.Omega.{arith}
+use lib.ListN.{length, getD, set, drop}
+use lib.Seq.{take-at, getD-take, getD-drop, getD-set-same, paste}
+use Rattle.octets.proofs.Numbers.{num-left}
+use Rattle.exchange.specs.Request.{pollOctets}
+use Rattle.exchange.specs.Response.{responseOf}
+use Rattle.exchange.specs.Judging.{outcomeOf}
+use Rattle.exchange.specs.declared.request.Asked.{Asked}
+use Rattle.exchange.specs.declared.response.Response.{Response}
+use Rattle.exchange.proofs.Polls.{poll-offset}
+use Rattle.association.specs.Plain.{Opened, Outstanding, Place, closed, opened, received, replyOf, placeDo}
+use Rattle.association.specs.Encode.{placeFilter}
+use Rattle.association.specs.declared.event.Event.the-variants.{Receive}
+use Rattle.association.specs.declared.event.Reply.{Reply}
+use Rattle.association.proofs.Reached.{GoodPlace, GoodOpened}
+use Rattle.order.specs.Order.{after}
+use Rattle.client.specs.Call.{receive, Typed, Answer, receiveAnswer}
+use Rattle.client.specs.Plain.{closedTable, stepPlain, encodeAll}
+use Rattle.client.specs.Claim.{placeAfter}
+use Rattle.client.proofs.Tables.{GoodTable, good-at}
+use Rattle.client.proofs.Simulate.{at-in}
+use Rattle.client.proofs.Pasted.{within}
+use Rattle.client.proofs.Demand3.{simulates, good-reached, call-reached, octet-at}
+use Rattle.client.proofs.Demand2.{accepts}
+use Rattle.store.specs.Row.{rowOf}
+use Rattle.responder.specs.Answer.{Given, answerRefusal, answerOctets, answerOf}
+use Rattle.responder.proofs.Accepting.{answer-accepted, answer-written, answer-number, answer-given}
+use Rattle.responder.proofs.Room.{response-length}
+use Rattle.together.specs.Together.{Polling, chunkOf, offsetOf, callsOf, Asks, Answers, sentBy, receiving, Exchanged, Together}
+use Rattle.together.proofs.Answered.{chunkAsked, polled-size}
+use Rattle.together.proofs.Served.{Serves, served, chunk-taken, chunk-octets}
+use Rattle.together.proofs.Waiting.{Waits}
+use Rattle.together.proofs.Polled.{Written, written}
+
+-- a place that waits for an answer accepts one that serves its request
+accepted-by : (q : Asked) (cookie : ℕ) (filter datagram : List ℕ) (p : Place) (w : Waits q cookie p) → Serves q cookie filter datagram
+    → (t4 : ℕ) → (t4 ≡ 0 → ⊥) → placeDo (Receive (responseOf datagram t4)) datagram p
+    ≡ (replyOf (responseOf datagram t4) (w .place) (w .request), opened (received (responseOf datagram t4) datagram (w .place) (w .request)))
+accepted-by q cookie filter datagram p w s t4 nonzero = accepts datagram t4 nonzero p (record {
+  place = w .place;
+  open-sender = w .waiting;
+  request = w .request;
+  outstanding = w .outstanding;
+  sound = s .sound;
+  repeats = s .client ∙ sym (w .client);
+  interleaved = λ i z. s .interleaved i (sym (w .server) ∙ z);
+})
+
+module _ (k : Polling) (h : Asks k) (g : Given) (store out : List ℕ) (n : Answers k g store out) where
+  w : Written k
+  w = written k h
+
+  abbrev q : Asked
+  q = w .asked
+
+  abbrev a : ℕ
+  a = k .association
+
+  abbrev poll : List ℕ
+  poll = pollOctets q (k .cookie) (k .exponent) (k .interleaved)
+
+  poll-long : length poll ≡ 84 + q .chunk
+  poll-long = polled-size q (k .cookie) (k .exponent) (k .interleaved) (w .ranges .good)
+
+  -- the request is what the poll wrote
+  request : g .request ≡ poll
+  request = n .request ∙ rw (w .answer) (take-at poll (drop (84 + q .chunk) (k .out)) (84 + q .chunk) poll-long)
+
+  passes : answerRefusal g store out ≡ 0
+  passes = sym (answer-number g store out) ∙ n .taken
+
+  abbrev answer : List ℕ
+  answer = answerOctets g (rowOf store)
+
+  -- what is sent is the answer
+  sent : sentBy (answerOf g store out) ≡ answer
+  sent =
+      ap sentBy (answer-written g store out passes)
+      ∙ take-at answer (drop (length (g .request)) out) (length (g .request)) (answer-given g store out passes (n .range) .long)
+
+  serves : Serves q (k .cookie) (g .filter) answer
+  serves = served q (k .cookie) (k .exponent) (k .interleaved) (w .ranges) g request store out passes (n .range) (n .filter) (n .stored)
+
+  abbrev places : List Place
+  places = after stepPlain (callsOf k) closedTable
+
+  abbrev before : Place
+  before = placeAfter (callsOf k) a
+
+  abbrev o : Opened
+  o = w .waits .place
+
+  abbrev asked : Outstanding
+  asked = w .waits .request
+
+  good : GoodTable places
+  good = good-reached (callsOf k) (h .typed)
+
+  module _ (t4 : ℕ) (nonzero : t4 ≡ 0 → ⊥) (fits : t4 < 2 ^ 64) where
+    abbrev r : Response
+    r = responseOf answer t4
+
+    typed : Typed (receive a answer t4)
+    typed = let l = w .inside in (omega arith, serves .octets, fits)
+
+    -- what receiving the answer answers and leaves, on the plain table
+    plain : stepPlain (receive a answer t4) places ≡ (receiveAnswer (replyOf r o asked), set places a (opened (received r answer o asked)))
+    plain =
+        ap (λ (x : Reply × List Place). (receiveAnswer (x .0), x .1)) (at-in a (Receive r) answer places (w .inside))
+        ∙ ap (λ (x : Reply × Place). (receiveAnswer (x .0), set places a (x .1))) (accepted-by q (k .cookie) (g .filter) answer before (w .waits) serves t4 nonzero)
+
+    came : receiving k answer t4 ≡ (receiveAnswer (replyOf r o asked), encodeAll (set places a (opened (received r answer o asked))))
+    came =
+        call-reached (k .table) (h .size) (callsOf k) (h .typed) (receive a answer t4) typed
+        ∙ ap (λ (x : Answer × List Place). (x .0, encodeAll (x .1))) plain
+
+    taken : outcomeOf r (o .chunk) ≡ 1
+    taken = chunk-taken q (k .cookie) (g .filter) answer t4 serves (o .chunk) (w .waits .chunk)
+
+    good-after : GoodTable (set places a (opened (received r answer o asked)))
+    good-after = subst (λ (x : Answer × List Place). GoodTable (x .1)) plain (simulates .invariant (receive a answer t4) places typed good)
+
+    -- the filter that is left
+    filter-left : received r answer o asked .filter ≡ paste (o .filter) (q .offset) (chunkAsked q (g .filter)) (q .chunk)
+    filter-left = rw (taken, chunk-octets q (k .cookie) (g .filter) answer t4 serves, w .waits .offset, w .waits .chunk)
+
+    -- octet i of it is the server's
+    octet-left : (i : ℕ) → q .offset ≤ i → i < q .offset + q .chunk → getD (received r answer o asked .filter) i 0 ≡ getD (g .filter) i 0
+    octet-left i l m =
+        let inside = w .ranges .good .inside in
+        let opens : GoodOpened o = subst GoodPlace (w .waits .waiting) (good-at places a (good .all)) in
+        let long = opens .filter in
+        let size = answer-accepted g store out passes .filter in
+        let same : q .offset + (i - q .offset) ≡ i = omega arith in
+        ap (λ (f : List ℕ). getD f i 0) filter-left
+        ∙ within (o .filter) (chunkAsked q (g .filter)) (q .offset) (q .chunk) (omega arith) (omega (arith, response-length (g .filter) (q .offset) (q .chunk) size inside)) i l m
+        ∙ getD-take (q .chunk) (drop (q .offset) (g .filter)) (i - q .offset) 0 (omega arith)
+        ∙ getD-drop (q .offset) (g .filter) (i - q .offset) 0 ∙ ap (λ (j : ℕ). getD (g .filter) j 0) same
+
+    -- the offset and the size that the poll wrote
+    offset-written : offsetOf k ≡ q .offset
+    offset-written =
+        let inside = w .ranges .good .inside in
+        let least = w .ranges .good .least in
+        rw (w .answer) (num-left poll (drop (84 + q .chunk) (k .out)) 84 2 (omega (arith, poll-long)) ∙ poll-offset q (k .cookie) (k .exponent) (k .interleaved) (omega arith))
+
+    chunk-written : chunkOf k ≡ q .chunk
+    chunk-written = rw (w .answer) (omega arith)
+
+    filter-taken : (i : ℕ) → offsetOf k ≤ i → i < offsetOf k + chunkOf k → getD (receiving k answer t4 .1) (a * 640 + (128 + i)) 0 ≡ getD (g .filter) i 0
+    filter-taken i l m =
+        let inside = w .ranges .good .inside in
+        let at = offset-written in
+        let c = chunk-written in
+        let next = opened (received r answer o asked) in
+        let u : a < length places = omega (arith, good .sixteen, w .inside) in
+        ap (λ (x : Answer × List ℕ). getD (x .1) (a * 640 + (128 + i)) 0) came
+        ∙ octet-at (set places a next) a i good-after (w .inside) (omega arith)
+        ∙ ap (λ (p : Place). getD (placeFilter p) i 0) (getD-set-same places a next closed u) ∙ octet-left i (omega arith) (omega arith)
+
+    exchanged : Exchanged k g store out t4
+    exchanged = record {
+      accepted = rw sent (ap (λ (x : Answer × List ℕ). x .0 .refusal) came);
+      taken = rw sent (ap (λ (x : Answer × List ℕ). x .0 .chunk) came ∙ taken);
+      filter = rw sent filter-taken;
+    }
+
+pub together : Together
+together k h g store out n t4 nonzero fits = exchanged k h g store out n t4 nonzero fits

@@ -1,0 +1,147 @@
+-- What a poll that is not refused asks, writes and leaves. Assumes nothing.
+use mathlib.Core.Path.{_≡_, refl, sym, ap, _∙_, subst, subst⁻¹}
+use mathlib.Core.Bool.{Bool, true, false, cond}
+use mathlib.Core.List.{List, [], _∷_, _++_}
+use Prim.Native.Nat.{ℕ, _+_, _<_}
+use native.Mathlib.Omega.{arith}
+use borrow.Author.Tests.{eqb-true, ltb-true, ltb-false}
+use lib.Dec.{eqb, ltb}
+use lib.IntN.{ℤ}
+use lib.ListN.{length, getD, set, drop}
+use lib.Seq.{getD-set-same}
+use Rattle.exchange.specs.Request.{pollOctets}
+use Rattle.exchange.specs.declared.request.Asked.{Asked}
+use Rattle.association.specs.Plain.{Opened, Place, closed, opened, polled as polledPlace, placeDo}
+use Rattle.association.specs.declared.event.Event.{Event}
+use Rattle.association.specs.declared.event.Event.the-variants.{Poll}
+use Rattle.association.specs.declared.event.Reply.{Reply}
+use Rattle.association.proofs.Chunks.{chunk-size}
+use Rattle.association.proofs.Reached.{GoodPlace, GoodOpened, good-step}
+use Rattle.order.specs.Order.{TaggedCall, after, EveryCall}
+use Rattle.order.proofs.Permutations.{every-left, every-right}
+use Rattle.order.proofs.Simulate.{after-append}
+use Rattle.client.specs.Call.{Call, Typed, Answer, plainAnswer, writtenAnswer, pollAnswer}
+use Rattle.client.specs.Plain.{closedTable, atPlace, stepPlain}
+use Rattle.client.specs.Claim.{placeAfter}
+use Rattle.client.proofs.Tables.{GoodTable, good-at}
+use Rattle.client.proofs.Simulate.{at-in, at-out}
+use Rattle.client.proofs.Demand3.{simulates, good-reached, call-reached}
+use Rattle.together.specs.Together.{Polling, pollOf, polled, callsOf, Asks}
+use Rattle.together.proofs.Served.{Ranges}
+use Rattle.together.proofs.Waiting.{askedOf, Polled, polled-place, Waits, polled-waits, calls-wait}
+
+pub record Written (k : Polling) : Type 0 where
+  -- the association is one of the sixteen
+  pub inside : k .association < 16
+  -- what is asked
+  pub asked : Asked
+  pub ranges : Ranges asked (k .cookie) (k .exponent)
+  -- what is written
+  pub answer : polled k
+      ≡ writtenAnswer (84 + asked .chunk) (pollOctets asked (k .cookie) (k .exponent) (k .interleaved) ++ drop (84 + asked .chunk) (k .out))
+  -- the place waits for its answer
+  pub waits : Waits asked (k .cookie) (placeAfter (callsOf k) (k .association))
+
+-- a poll answers its refusal
+poll-number : (cookie : ℕ) (exponent : ℤ) (interleaved : Bool) (out : List ℕ) (r : Reply) → pollAnswer cookie exponent interleaved out r .refusal ≡ r .refusal
+poll-number cookie exponent interleaved out r = go (eqb (r .refusal) 0) refl _ refl
+  where
+    go : (b : Bool) → eqb (r .refusal) 0 ≡ b → (w : Answer) → w .refusal ≡ 0 → cond b w (plainAnswer (r .refusal) out) .refusal ≡ r .refusal
+    go true e w z = z ∙ sym (eqb-true _ _ e)
+    go false e w z = refl
+
+module _ (k : Polling) (h : Asks k) where
+  abbrev a : ℕ
+  a = k .association
+
+  abbrev places : List Place
+  places = after stepPlain (k .earlier) closedTable
+
+  abbrev before : Place
+  before = getD places a closed
+
+  abbrev event : Event
+  event = Poll (record { 0 = k .cookie }) (k .interleaved) (length (k .out))
+
+  abbrev call : TaggedCall Call
+  call = record { tag = k .tag; call = pollOf k }
+
+  earlier-typed : EveryCall Typed (k .earlier)
+  earlier-typed = every-left (λ x. Typed (x .call)) (k .earlier) (call ∷ k .between) (h .typed)
+
+  later-typed : EveryCall Typed (call ∷ k .between)
+  later-typed = every-right (λ x. Typed (x .call)) (k .earlier) (call ∷ k .between) (h .typed)
+
+  good : GoodTable places
+  good = good-reached (k .earlier) earlier-typed
+
+  -- the answer is that of the plain table
+  plain-answer : polled k ≡ pollAnswer (k .cookie) (k .exponent) (k .interleaved) (k .out) (atPlace a event [] places .0)
+  plain-answer = ap (λ (w : Answer × List ℕ). w .0) (call-reached (k .table) (h .size) (k .earlier) earlier-typed (pollOf k) (later-typed .0))
+
+  not-refused : atPlace a event [] places .0 .refusal ≡ 0
+  not-refused =
+      sym (poll-number (k .cookie) (k .exponent) (k .interleaved) (k .out) (atPlace a event [] places .0))
+      ∙ ap (λ (w : Answer). w .refusal) (sym plain-answer) ∙ h .taken
+
+  inside : a < 16
+  inside = go (ltb a 16) refl
+    where
+      go : (b : Bool) → ltb a 16 ≡ b → a < 16
+      go true t = ltb-true a 16 t
+      go false t =
+          let z = sym (ap (λ (w : Reply × List Place). w .0 .refusal) (at-out a event [] places (ltb-false a 16 t))) ∙ not-refused in
+          absurd (omega arith)
+
+  here : atPlace a event [] places ≡ (placeDo event [] before .0, set places a (placeDo event [] before .1))
+  here = at-in a event [] places inside
+
+  at : Polled (k .cookie) (k .interleaved) before (placeDo event [] before)
+  at =
+      polled-place (k .cookie) (k .interleaved) (length (k .out)) before
+      (sym (ap (λ (w : Reply × List Place). w .0 .refusal) here) ∙ not-refused)
+
+  abbrev o : Opened
+  o = at .place
+
+  good-before : GoodOpened o
+  good-before = subst GoodPlace (at .before) (good-at places a (good .all))
+
+  good-polled : GoodOpened (polledPlace (k .cookie) (k .interleaved) o)
+  good-polled = subst GoodPlace (at .left) (good-step event [] before (later-typed .0 .1) (good-at places a (good .all)))
+
+  ranges : Ranges (askedOf (k .interleaved) o) (k .cookie) (k .exponent)
+  ranges =
+      let size = chunk-size (o .chunk) (good-before .offers) in
+      let low = size .low in
+      record {
+        good = record { four = size .fours; least = omega arith; inside = good-before .next .fits };
+        timescale = good-before .timescale;
+        poll = later-typed .0 .2;
+        client = later-typed .0 .1;
+        server = good-polled .outstanding .server;
+      }
+
+  -- the place once it was polled
+  left : getD (stepPlain (pollOf k) places .1) a closed ≡ opened (polledPlace (k .cookie) (k .interleaved) o)
+  left =
+      let m : a < length places = omega (arith, good .sixteen, inside) in
+      ap (λ (w : Reply × List Place). getD (w .1) a closed) here ∙ getD-set-same places a (placeDo event [] before .1) closed m ∙ at .left
+
+  -- and when the answer comes
+  waits : Waits (askedOf (k .interleaved) o) (k .cookie) (placeAfter (callsOf k) a)
+  unfolding after
+  waits =
+      subst⁻¹ (λ (ps : List Place). Waits (askedOf (k .interleaved) o) (k .cookie) (getD ps a closed)) (after-append stepPlain (k .earlier) (call ∷ k .between) closedTable)
+      (calls-wait (askedOf (k .interleaved) o) (k .cookie) a inside (k .between) (stepPlain (pollOf k) places .1) (later-typed .1) (h .outstanding)
+      (simulates .invariant (pollOf k) places (later-typed .0) good)
+      (subst⁻¹ (Waits (askedOf (k .interleaved) o) (k .cookie)) left (polled-waits (k .cookie) (k .interleaved) o)))
+
+  pub written : Written k
+  written = record {
+    inside = inside;
+    asked = askedOf (k .interleaved) o;
+    ranges = ranges;
+    answer = plain-answer ∙ ap (pollAnswer (k .cookie) (k .exponent) (k .interleaved) (k .out)) (ap (λ (w : Reply × List Place). w .0) here ∙ at .reply);
+    waits = waits;
+  }
