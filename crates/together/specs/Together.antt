@@ -56,14 +56,15 @@ leavesRequest a (receive b datagram t4) = not (eqb b a)
 leavesRequest a (loopVerdict b id) = true
 leavesRequest a (publish selected id out) = true
 
--- the poll is not refused, and the calls after it leave its request outstanding
+-- the client's side: on a table of the right size, with arguments of their types, the poll is not refused, and the calls after it
+-- leave its request outstanding
 pub record Asks (k : Polling) : Type 0 where
   pub size : length (k .table) ≡ tableOctets
   pub typed : EveryCall Typed (callsOf k)
   pub taken : polled k .refusal ≡ 0
   pub outstanding : EveryCall (λ c. leavesRequest (k .association) c ≡ true) (k .between)
 
--- an answer to the octets that the poll wrote, on any store and output, is not refused
+-- the responder's side: the request is the octets that the poll wrote, and the answer to it, on any store and output, is not refused
 pub record Answers (k : Polling) (g : Given) (store out : List ℕ) : Type 0 where
   pub request : g .request ≡ take (polled k .length) (polled k .out)
   pub range : InRange g (rowOf store)
@@ -71,7 +72,7 @@ pub record Answers (k : Polling) (g : Given) (store out : List ℕ) : Type 0 whe
   pub stored : Octets store
   pub taken : answerOf g store out .refusal ≡ 0
 
--- the octets that an answer wrote
+-- the octets that an answer sends
 abbrev pub sentBy : Outcome → List ℕ
 sentBy w = take (w .length) (w .out)
 
@@ -84,9 +85,11 @@ pub record Exchanged (k : Polling) (g : Given) (store out : List ℕ) (t4 : ℕ)
   pub accepted : receiving k (sentBy (answerOf g store out)) t4 .0 .refusal ≡ 0
   -- and takes its chunk
   pub taken : receiving k (sentBy (answerOf g store out)) t4 .0 .chunk ≡ 1
-  -- its filter has the server's octets there
+  -- where the poll asked, its filter is then the server's; octet i of it stands at 128 + i of its record
   pub filter : (i : ℕ) → offsetOf k ≤ i → i < offsetOf k + chunkOf k
       → getD (receiving k (sentBy (answerOf g store out)) t4 .1) (k .association * 640 + (128 + i)) 0 ≡ getD (g .filter) i 0
 
+-- for every such exchange, at any T4 that is not 0
 abbrev pub Together : Type 0
-Together = (k : Polling) → Asks k → (g : Given) (store out : List ℕ) → Answers k g store out → (t4 : ℕ) → (t4 ≡ 0 → ⊥) → t4 < 2 ^ 64 → Exchanged k g store out t4
+Together = (k : Polling) → Asks k → (g : Given) (store out : List ℕ) → Answers k g store out
+    → (t4 : ℕ) → (t4 ≡ 0 → ⊥) → t4 < 2 ^ 64 → Exchanged k g store out t4
