@@ -4,7 +4,7 @@
 usage: cases_model.py < CASES > EXPECTED
 
 Plain Python, written from the page ("What to make and its exact rules") and docs/CASES.md, and from nothing
-of the Rattle code. The page is in page_model.py and client_model.py; the case files' format is here.
+of the Rattle code. The page is in page_model.py, client_model.py and responder_model.py; the case files' format is here.
 """
 import re
 import sys
@@ -13,6 +13,7 @@ sys.dont_write_bytecode = True      # no generated folder beside the sources
 from client_model import Table      # noqa: E402
 from page_model import (add, delay, header_refusal, offset, read_header, sound, union, weight,     # noqa: E402
                         write_header)
+from responder_model import Store       # noqa: E402
 
 LIMIT = 4096        # octets in a word
 LONGEST = 65536     # octets in a line, without its comment
@@ -158,6 +159,24 @@ def publish_call(*words):
     return f"{refusal}" if refusal else f"0 {text_of(output)}"
 
 
+STORE = Store()     # one for the whole case file
+
+
+def lend_call(octets):
+    STORE.lend(octets)
+    return text_of(octets)
+
+
+def report_call(*words):
+    refusal = STORE.report(*words)
+    return f"{refusal} {text_of(STORE.octets)}"
+
+
+def answer_call(*words):
+    refusal, length, output = STORE.answer(*words)
+    return f"{refusal}" if refusal else f"0 {length} {text_of(output)}"
+
+
 # Each call: how its words are read, and what it prints after its name.
 CALLS = {
     "header": ([U8, octets_of], header_call),
@@ -175,6 +194,10 @@ CALLS = {
     "receive": ([U8, U64, octets_of], receive_call),
     "verdict": ([U8, octets_of], verdict_call),
     "publish": ([U16, octets_of, octets_of], publish_call),
+    "store": ([U8], STORE.clear),
+    "lend": ([octets_of], lend_call),
+    "report": ([U64, U64], report_call),
+    "answer": ([octets_of, U64, U64, U64, U8, U8, I8, I8, U8, U8, U16, U32, U32, octets_of, octets_of, octets_of], answer_call),
 }
 
 

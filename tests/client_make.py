@@ -3,8 +3,8 @@
 Each group begins with a comment and, where it needs one, a fresh table.
 """
 from cases_model import text_of
-from client_model import CHUNK_SIZES, FILTER_RESPONSE, extension
-from page_model import add, write_header
+from client_model import CHUNK_SIZES
+from page_model import FILTER_RESPONSE, add, extension, write_header
 
 WHOLE = {"leap": 0, "mode": 4, "stratum": 1, "poll": 6, "precision": -20, "timescale": 0, "era": 0, "flags": 0,
          "root_delay": 0, "root_dispersion": 0, "server_cookie": 0, "client_cookie": 0, "receive": 20, "transmit": 30}

@@ -5,12 +5,10 @@ else the page has it answer; a refused call answers zeros, leaves its output buf
 """
 from dataclasses import dataclass, field
 
-from page_model import add, delay, fields, offset, positions, read_header, sound, union, write_header
+from page_model import (DRAFT, DRAFT_NAME, FILTER_REQUEST, FILTER_RESPONSE, INTERLEAVED, add, delay, extension, fields,
+                        offset, positions, read_header, sound, union, write_header)
 
 CHUNK_SIZES = (16, 32, 64, 128, 256, 512)
-DRAFT_NAME = b"draft-mlichvar-ntp-ntpv5-07"
-DRAFT, FILTER_REQUEST, FILTER_RESPONSE = 0xF5FF, 0xF503, 0xF504
-INTERLEAVED = 0x2
 
 TAKEN, ABSENT, ANOTHER_SIZE = 1, 2, 3       # what became of a chunk
 INCOMPLETE, LOOP, CLEAR = 1, 2, 3           # loop verdicts
@@ -62,12 +60,6 @@ class Place:
             self.taken[at] = True
         self.next_offset = (self.next_offset + self.chunk_size) % 512
         return TAKEN
-
-
-def extension(kind, data):
-    """A field with its padding; the length does not count the padding."""
-    length = 4 + len(data)
-    return kind.to_bytes(2, "big") + length.to_bytes(2, "big") + data + bytes(-length % 4)
 
 
 def request_octets(values, start, chunk_size):

@@ -5,6 +5,11 @@ octet strings are `bytes`, numbers are whole numbers without a width.
 """
 
 
+DRAFT_NAME = b"draft-mlichvar-ntp-ntpv5-07"
+PADDING, FILTER_REQUEST, FILTER_RESPONSE, INFORMATION, DRAFT = 0xF501, 0xF503, 0xF504, 0xF505, 0xF5FF
+INTERLEAVED = 0x2       # a flag
+
+
 def number(octets):
     """Network order: the highest octet first."""
     return int.from_bytes(octets, "big")
@@ -46,6 +51,12 @@ def fields(datagram):
         length = number(datagram[at + 2:at + 4])
         yield number(datagram[at:at + 2]), datagram[at + 4:at + length]
         at += (length + 3) // 4 * 4
+
+
+def extension(kind, data):
+    """A field with its padding; the length does not count the padding."""
+    length = 4 + len(data)
+    return kind.to_bytes(2, "big") + length.to_bytes(2, "big") + data + bytes(-length % 4)
 
 
 # The fields after octet 0: name, first octet, octets, whether signed.

@@ -40,7 +40,14 @@ fn name_octets(k: usize) -> usize
 }
 
 // Writes what answers a field by its role, and answers the place after it.
-fn answer_to(role: Role, field: Field, filter: &[u8], information: &[u8], out: &mut [u8], at: usize) -> usize
+fn answer_to(
+    role: Role,
+    field: Field,
+    filter: &[u8],
+    information: &[u8],
+    out: &mut [u8],
+    at: usize,
+) -> usize
     requires { ⌜ Suits field role × (length (now filter) ≡ 512) × (length (now information) ≡ 4)
         × (at + (4 + padded (field .length)) ≤ length (now out)) ⌝ }
     ensures { λ r. ⌜ Lays (now (out .entry)) at (chainOctets (answerTo (now (filter .entry)) (now (information .entry)) field role)) r (now (out .exit)) ⌝ }
@@ -55,7 +62,15 @@ fn answer_to(role: Role, field: Field, filter: &[u8], information: &[u8], out: &
 }
 
 // Writes the answers to the fields from the cursor on, and answers the place after them.
-pub(crate) fn answers(cursor: Cursor, request: &[u8], met: Met, filter: &[u8], information: &[u8], out: &mut [u8], at: usize) -> usize
+pub(crate) fn answers(
+    cursor: Cursor,
+    request: &[u8],
+    met: Met,
+    filter: &[u8],
+    information: &[u8],
+    out: &mut [u8],
+    at: usize,
+) -> usize
     requires { ⌜ (length (now filter) ≡ 512) × (length (now information) ≡ 4) × (length (now request) ≤ length (now out))
         × (at ≤ cursor .at) × (cursor .at ≤ length (now request)) ⌝ }
     ensures { λ r. ⌜ Lays (now (out .entry)) at
@@ -68,7 +83,15 @@ pub(crate) fn answers(cursor: Cursor, request: &[u8], met: Met, filter: &[u8], i
     let kind = field.kind;
     let role = role::role_of(request, field, met);
     let reached = answer_to(role, field, filter, information, out, at);
-    answers(next, request, role::met_after(met, kind), filter, information, out, reached)
+    answers(
+        next,
+        request,
+        role::met_after(met, kind),
+        filter,
+        information,
+        out,
+        reached,
+    )
 }
 
 // Fills what is left with one padding field.

@@ -1,0 +1,106 @@
+"""The responder of document 01 and its store of saved timestamps.
+
+A call answers its refusal number, 0 for success, and after it what else the page has it answer; a refused call
+answers zeros, leaves its output buffer as lent and changes nothing.
+"""
+from page_model import (DRAFT, DRAFT_NAME, FILTER_REQUEST, FILTER_RESPONSE, INFORMATION, INTERLEAVED, PADDING, extension,
+                        fields, number, read_header, sound, write_header)
+
+SERVER = ("leap", "stratum", "poll", "precision", "timescale", "era", "flags", "root_delay", "root_dispersion")
+
+
+def good_request(data):
+    """A filter request: a multiple of 4 octets from 4 to 512, and no further than the filter's end."""
+    return len(data) in range(4, 513, 4) and number(data[:2]) + len(data) <= 512
+
+
+def answer_fields(request, filter_octets, information):
+    """What answers each field, in request order; a second field of a type already met is skipped."""
+    met = set()
+    for kind, data in fields(request):
+        if kind in met:
+            continue
+        met.add(kind)
+        if kind == FILTER_REQUEST and good_request(data):
+            start = number(data[:2])
+            yield extension(FILTER_RESPONSE, filter_octets[start:start + len(data)])
+        elif kind == INFORMATION and len(data) == 4:
+            yield extension(INFORMATION, information)
+        elif kind == DRAFT:
+            yield extension(DRAFT, DRAFT_NAME[:len(data)])
+
+
+class Store:
+    """A row of records, each a cookie and its time, in a buffer that the caller lends."""
+
+    def __init__(self):
+        self.octets = bytes(16)
+
+    def clear(self, records):
+        """A buffer of so many records, cleared; where that is refused, the store stays the one before."""
+        if not 1 <= records <= 64:
+            return 6
+        self.octets = bytes(16 * records)
+        return 0
+
+    def lend(self, octets):
+        """Any octets as the store, as they are."""
+        self.octets = octets
+
+    def records(self):
+        numbers = [number(self.octets[at:at + 8]) for at in range(0, len(self.octets), 8)]
+        return list(zip(numbers[::2], numbers[1::2]))
+
+    def row(self):
+        return [record for record in self.records() if record != (0, 0)]
+
+    def wrong(self):
+        """The store part of 6: its size; a gap; a used cookie 0; one held twice."""
+        if len(self.octets) not in range(16, 1025, 16):
+            return True
+        row = self.row()
+        cookies = [cookie for cookie, _ in row]
+        return self.records()[:len(row)] != row or 0 in cookies or len(set(cookies)) < len(cookies)
+
+    def keep(self, row):
+        octets = b"".join(cookie.to_bytes(8, "big") + time.to_bytes(8, "big") for cookie, time in row)
+        self.octets = octets.ljust(len(self.octets), b"\0")
+
+    def report(self, cookie, time):
+        if self.wrong() or time == 0:
+            return 6
+        row = self.row()
+        if (cookie, 0) not in row:
+            return 12
+        self.keep([(c, time if c == cookie else t) for c, t in row])
+        return 0
+
+    def answer(self, request, receive, estimate, fresh, *rest):
+        """`rest` is the server's nine values, its filter, its server information, and the output buffer."""
+        server, (filter_octets, information, output) = dict(zip(SERVER, rest)), rest[len(SERVER):]
+        if (self.wrong() or len(filter_octets) != 512 or len(information) != 4 or server["leap"] > 3
+                or receive == 0 or estimate == 0):
+            return 6, 0, output
+        if refusal := sound(request, 3):
+            return refusal, 0, output
+        asked, row = read_header(request), self.row()
+        wanted = bool(asked["flags"] & INTERLEAVED)
+        if wanted and (fresh == 0 or fresh in dict(row)):
+            return 8, 0, output
+        if len(output) < len(request):
+            return 11, 0, output
+        saved = dict(row).get(asked["server_cookie"], 0) if wanted else 0
+        if wanted:
+            row = [(c, t) for c, t in row if not (saved and c == asked["server_cookie"])]
+            if 16 * len(row) == len(self.octets):
+                row = row[1:]
+            self.keep(row + [(fresh, 0)])
+        flags = server["flags"] & ~INTERLEAVED | (INTERLEAVED if saved else 0)
+        _, octets = write_header({**server, "mode": 4, "flags": flags, "server_cookie": fresh if wanted else 0,
+                                  "client_cookie": asked["client_cookie"], "receive": receive,
+                                  "transmit": saved or estimate}, bytes(48))
+        octets += b"".join(answer_fields(request, filter_octets, information))
+        left = len(request) - len(octets)
+        if left:
+            octets += extension(PADDING, bytes(left - 4))
+        return 0, len(octets), octets + output[len(octets):]
