@@ -2,15 +2,14 @@
 // line (print.rt); the row's number, from 0 on, stands in `make`, or for the client's calls in client_calls.rt.
 use crate::client_calls;
 use crate::octet_words::lay;
-use crate::print;
-use crate::text::find;
-use crate::text::piece;
 use crate::words;
 use crate::words::i8_at;
 use crate::words::u8_at;
 use crate::words::u16_at;
 use crate::words::u32_at;
 use crate::words::u64_at;
+use text::find;
+use text::piece;
 
 pub(crate) fn wide8(x: u8) -> u64 {
     x as u64

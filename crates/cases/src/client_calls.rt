@@ -3,7 +3,6 @@ use crate::calls::bits;
 use crate::calls::result;
 use crate::calls::wide8;
 use crate::calls::wide16;
-use crate::print;
 use crate::words::i8_at;
 use crate::words::is_interleaved;
 use crate::words::u8_at;

@@ -1,9 +1,8 @@
 // Standard input as lines: each is gathered octet by octet and run when it ends.
 use crate::calls;
-use crate::print;
-use crate::text::find;
-use crate::text::part;
 use crate::words;
+use text::find;
+use text::part;
 
 // The line that is being gathered: its number from 1 on, its length so far, whether its comment has begun, and
 // whether it has ended; how much of the input was read last, and how far it was gathered; and whether the input

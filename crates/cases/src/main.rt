@@ -4,8 +4,6 @@ mod client_calls;
 mod input;
 mod numbers;
 mod octet_words;
-mod print;
-mod text;
 mod words;
 
 fn main() {

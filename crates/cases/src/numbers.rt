@@ -1,10 +1,10 @@
 // Numbers as words: decimal, or hexadecimal after 0x; signed ones may begin with a minus sign.
 ghost use Prim.Native.Nat.{_<_, _≤_};
-use crate::text::part;
 use crate::words::NOT_A_NUMBER;
 use crate::words::OUT_OF_RANGE;
 use crate::words::Value;
 use octets::number::get8;
+use text::part;
 
 // A digit's value, 0 to 15, or 16 where the octet is no digit.
 pub(crate) fn digit(octet: u8) -> u8

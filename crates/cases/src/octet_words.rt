@@ -2,8 +2,6 @@
 // may stand between pairs, and must where more follows a count. A word of one minus sign is no octets.
 use crate::numbers::digit;
 use crate::numbers::digits;
-use crate::text::find;
-use crate::text::part;
 use crate::words::NOT_A_NUMBER;
 use crate::words::NOT_OCTETS;
 use crate::words::ODD_DIGITS;
@@ -11,6 +9,8 @@ use crate::words::TOO_MANY_OCTETS;
 use crate::words::Value;
 use octets::number::get8;
 use octets::number::put8;
+use text::find;
+use text::part;
 
 // The most octets that a word may have.
 const MOST: u64 = 4096;

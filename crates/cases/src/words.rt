@@ -8,8 +8,8 @@
 // A line is checked first; a call then takes its words out of the line by their numbers, from 1 on.
 use crate::numbers;
 use crate::octet_words::lay;
-use crate::text::piece;
 use octets::number::get8;
+use text::piece;
 
 // What can be wrong with a line: the numbers of the rows in `print::problem`. 0 is nothing.
 pub(crate) const UNKNOWN_CALL: u8 = 1;

@@ -1,7 +1,7 @@
 -- `runs` is safe and ends. Assumes nothing.
 use borrow.Author.Needs.{needs}
-use Rattle.cases.proofs.print.runs.Statement.{statement}
-use Rattle.cases.proofs.print.runs.Tie as tie
+use Rattle.print.proofs.runs.Statement.{statement}
+use Rattle.print.proofs.runs.Tie as tie
 
 abbrev Inv-loop : tie.InvT-loop
 Inv-loop octets at₀ turns₀ at turns = Unit {0}

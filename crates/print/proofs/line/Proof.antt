@@ -2,14 +2,14 @@
 use Prim.Native.Nat.{_-_}
 use lib.ListN.{length}
 use borrow.Author.Needs.{needs}
-use Rattle.cases.proofs.print.line.Statement.{statement}
-use Rattle.cases.proofs.print.line.Tie as tie
+use Rattle.print.proofs.line.Statement.{statement}
+use Rattle.print.proofs.line.Tie as tie
 
 abbrev Inv-loop : tie.InvT-loop
-Inv-loop row values octets k₀ more₀ k more = Unit {0}
+Inv-loop row values octets k₀ k = Unit {0}
 
 abbrev μ-loop : tie.MeasureT-loop
-μ-loop row values octets k₀ more₀ k more = length values - k
+μ-loop row values octets k₀ k = length values - k
 
 piece-requires : tie.Need-piece-requires Inv-loop μ-loop
 piece-requires c κs = search needs

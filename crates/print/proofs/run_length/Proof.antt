@@ -2,8 +2,8 @@
 use Prim.Native.Nat.{_-_}
 use lib.ListN.{length}
 use borrow.Author.Needs.{needs}
-use Rattle.cases.proofs.print.run_length.Statement.{statement}
-use Rattle.cases.proofs.print.run_length.Tie as tie
+use Rattle.print.proofs.run_length.Statement.{statement}
+use Rattle.print.proofs.run_length.Tie as tie
 
 abbrev Inv-loop : tie.InvT-loop
 Inv-loop octets at i₀ i = Unit {0}

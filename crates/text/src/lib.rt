@@ -1,9 +1,12 @@
 // Looking through text. These functions ask nothing of their numbers: what is past an end is empty.
-ghost use Prim.Native.Nat.{_≤_};
-ghost use lib.ListN.{length};
+ghost use mathlib.Core.Path.{_≡_};
+ghost use lib.ListN.{drop};
+ghost use Rattle.text.specs.Place.{plainOf, partOf, placeOf, pieceOf};
 
 // The octets from..to, or none where the text has no such part.
-pub(crate) fn part(text: &[u8], from: usize, to: usize) -> &[u8] {
+pub fn part(text: &[u8], from: usize, to: usize) -> &[u8]
+    ensures { λ r. ⌜ now r ≡ partOf (now (text .entry)) from to ⌝ }
+{
     if to <= text.len() {
         if from <= to {
             return &text[from..to];
@@ -12,8 +15,20 @@ pub(crate) fn part(text: &[u8], from: usize, to: usize) -> &[u8] {
     &text[0..0]
 }
 
+// The octets from a place on.
+pub fn rest(text: &[u8], from: usize) -> &[u8]
+    ensures { λ r. ⌜ now r ≡ drop from (now (text .entry)) ⌝ }
+{
+    if from <= text.len() {
+        return &text[from..];
+    }
+    &text[0..0]
+}
+
 // A tab and the return of a CRLF line end are spaces.
-fn plain(octet: u8) -> u8 {
+fn plain(octet: u8) -> u8
+    ensures { λ r. ⌜ r ≡ plainOf octet ⌝ }
+{
     match octet {
         b'\t' | b'\r' => b' ',
         _ => octet,
@@ -21,8 +36,8 @@ fn plain(octet: u8) -> u8 {
 }
 
 // The first place from `at` on where an octet is this one, or where one is not; or the end.
-pub(crate) fn find(text: &[u8], at: usize, octet: u8, same: bool) -> usize
-    ensures { λ r. ⌜ r ≤ length (now (text .entry)) ⌝ }
+pub fn find(text: &[u8], at: usize, octet: u8, same: bool) -> usize
+    ensures { λ r. ⌜ r ≡ placeOf (now (text .entry)) at octet same ⌝ }
 {
     let mut i = at;
     while i < text.len() {
@@ -35,7 +50,9 @@ pub(crate) fn find(text: &[u8], at: usize, octet: u8, same: bool) -> usize
 }
 
 // The piece of this number, from 0 on, of those that stand between separators; empty past the last.
-pub(crate) fn piece(text: &[u8], number: usize, separator: u8) -> &[u8] {
+pub fn piece(text: &[u8], number: usize, separator: u8) -> &[u8]
+    ensures { λ r. ⌜ now r ≡ pieceOf (now (text .entry)) number separator ⌝ }
+{
     let mut at = find(text, 0, separator, false);
     let mut k: usize = 0;
     while k < number {

@@ -6,10 +6,15 @@
 //   %r         a refusal in decimal; the words after it are printed only if it is 0
 //   %o         the octets
 // Each piece goes to standard output at once, so no line is too long to print.
-use crate::text::find;
-use crate::text::part;
-use crate::text::piece;
+//
+// A call returns nothing and leaves every octet that it was lent as it was, which is all that a contract can say:
+// what goes to standard output is outside the logic, and is compared where a program is run.
 use octets::number::get8;
+use text::find;
+use text::part;
+use text::piece;
+use text::rest;
+ghost use mathlib.Core.Path.{_≡_};
 
 fn octet(octet: u8) {
     io::write_all(1, &[octet]);
@@ -39,7 +44,7 @@ fn run(octets: &[u8], at: usize) -> usize {
     times
 }
 
-// Octets as the module octet_words reads them.
+// Octets as a word of a line has them.
 fn runs(octets: &[u8]) {
     if octets.len() == 0 {
         octet(b'-');
@@ -93,24 +98,26 @@ fn put(word: &[u8], x: u64, octets: &[u8]) -> bool {
     octet(b' ');
     io::write_all(1, part(word, 0, mark));
     value(letter, x, octets);
-    io::write_all(1, part(word, mark + 2, word.len()));
+    io::write_all(1, rest(word, mark + 2));
     (letter != b'r') | (x == 0)
 }
 
 // The row with these values, one for each word of its form, and octets.
-pub(crate) fn line(row: &[u8], values: &[u64], octets: &[u8]) {
+pub fn line(row: &[u8], values: &[u64], octets: &[u8])
+    ensures { λ r. ⌜ r ≡ tt ⌝ }
+{
     io::write_all(1, piece(row, 0, b' '));
     let mut k: usize = 0;
-    let mut more = true;
-    while k < values.len() && more {
-        more = put(piece(row, k + 2, b' '), values[k], octets);
+    while k < values.len() && put(piece(row, k + 2, b' '), values[k], octets) {
         k += 1;
     }
     octet(b'\n');
 }
 
 // What is wrong with which word of a line.
-pub(crate) fn problem(number: u64, word: usize, problem: u8) {
+pub fn problem(number: u64, word: usize, problem: u8)
+    ensures { λ r. ⌜ r ≡ tt ⌝ }
+{
     let table = b"none\n\
         line - %d: word %d: unknown call\n\
         line - %d: word %d: missing\n\

@@ -1,0 +1,2 @@
+-- Text: its parts and pieces.
+pub mod Place
