@@ -1,14 +1,14 @@
 // The calls. Each has a row among the rows of `run`, with its words' letters (words.rt) and the form of its result
 // line (print.rt); the row's number, from 0 on, stands in `make`, or for the client's calls in client_calls.rt.
 use crate::client_calls;
-use crate::octet_words::lay;
 use crate::words;
 use crate::words::i8_at;
-use crate::words::u8_at;
-use crate::words::u16_at;
-use crate::words::u32_at;
-use crate::words::u64_at;
 use text::find;
+use text::line::u8_at;
+use text::line::u16_at;
+use text::line::u32_at;
+use text::line::u64_at;
+use text::octet_word::lay;
 use text::piece;
 
 pub(crate) fn wide8(x: u8) -> u64 {

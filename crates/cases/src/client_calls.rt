@@ -5,9 +5,9 @@ use crate::calls::wide8;
 use crate::calls::wide16;
 use crate::words::i8_at;
 use crate::words::is_interleaved;
-use crate::words::u8_at;
-use crate::words::u16_at;
-use crate::words::u64_at;
+use text::line::u8_at;
+use text::line::u16_at;
+use text::line::u64_at;
 
 fn mode_at(line: &[u8], word: usize) -> client::Mode {
     if is_interleaved(line, word) {

@@ -2,8 +2,6 @@
 mod calls;
 mod client_calls;
 mod input;
-mod numbers;
-mod octet_words;
 mod words;
 
 fn main() {

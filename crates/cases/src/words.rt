@@ -6,37 +6,22 @@
 //   I            octets that the call reads
 //   O            octets that the call may change, at most one word of a call
 // A line is checked first; a call then takes its words out of the line by their numbers, from 1 on.
-use crate::numbers;
-use crate::octet_words::lay;
 use octets::number::get8;
+use text::number::read;
+use text::octet_word::lay;
 use text::piece;
 
-// What can be wrong with a line: the numbers of the rows in `print::problem`. 0 is nothing.
+// What can be wrong with a line, besides what text says of numbers and octets, 4 to 8: the numbers of the rows in
+// `print::problem`. 0 is nothing.
 pub(crate) const UNKNOWN_CALL: u8 = 1;
 
 pub(crate) const MISSING: u8 = 2;
 
 pub(crate) const LEFT_OVER: u8 = 3;
 
-pub(crate) const NOT_A_NUMBER: u8 = 4;
-
-pub(crate) const OUT_OF_RANGE: u8 = 5;
-
-pub(crate) const NOT_OCTETS: u8 = 6;
-
-pub(crate) const ODD_DIGITS: u8 = 7;
-
-pub(crate) const TOO_MANY_OCTETS: u8 = 8;
-
 pub(crate) const TOO_LONG: u8 = 9;
 
 pub(crate) const NO_MODE: u8 = 10;
-
-// A word's value: a number, or how many octets it has; and what is wrong with it.
-pub(crate) struct Value {
-    pub(crate) value: u64,
-    pub(crate) problem: u8,
-}
 
 // What is wrong with which word of a line, counted from 1.
 pub(crate) struct Fault {
@@ -44,9 +29,9 @@ pub(crate) struct Fault {
     pub(crate) problem: u8,
 }
 
+// Octets are laid nowhere: no buffer has a place for them.
 fn octets_problem(word: &[u8]) -> u8 {
-    let mut scratch = io::buffer();
-    let laid = lay(word, &mut scratch);
+    let laid = lay(word, &mut []);
     laid.problem
 }
 
@@ -71,8 +56,8 @@ fn problem_of(word: &[u8], letter: u8) -> u8 {
         b'm' => mode_problem(word),
         b'I' | b'O' => octets_problem(word),
         _ => {
-            let read = numbers::read(word, letter);
-            read.problem
+            let value = read(word, letter);
+            value.problem
         }
     }
 }
@@ -92,36 +77,9 @@ pub(crate) fn check(line: &[u8], row: &[u8]) -> Fault {
     }
 }
 
-// A word of a line that was checked, as a number. The remainders below only say that it fits.
-pub(crate) fn u64_at(line: &[u8], word: usize) -> u64 {
-    let read = numbers::read(piece(line, word, b' '), b'q');
-    read.value
-}
-
-pub(crate) fn u32_at(line: &[u8], word: usize) -> u32 {
-    (u64_at(line, word) % 4294967296) as u32
-}
-
-pub(crate) fn u16_at(line: &[u8], word: usize) -> u16 {
-    (u64_at(line, word) % 65536) as u16
-}
-
-pub(crate) fn u8_at(line: &[u8], word: usize) -> u8 {
-    (u64_at(line, word) % 256) as u8
-}
-
-// The number of eight bits whose two's complement this octet is.
-fn from_octet(x: u8) -> i8 {
-    if x < 128 {
-        x as i8
-    } else {
-        (x as i16 - 256) as i8
-    }
-}
-
 pub(crate) fn i8_at(line: &[u8], word: usize) -> i8 {
-    let read = numbers::read(piece(line, word, b' '), b's');
-    from_octet((read.value % 256) as u8)
+    let value = read(piece(line, word, b' '), b's');
+    header::sign::from_octet((value.value % 256) as u8)
 }
 
 pub(crate) fn is_interleaved(line: &[u8], word: usize) -> bool {

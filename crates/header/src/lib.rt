@@ -1,6 +1,6 @@
 // The NTPv5 header: 48 octets, read and written.
 mod layout;
-mod sign;
+pub mod sign;
 
 use octets::number;
 ghost use mathlib.Core.Path.{_≡_};

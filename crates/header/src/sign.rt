@@ -3,7 +3,7 @@ ghost use mathlib.Core.Path.{_≡_};
 ghost use mir.Syntax.{w8};
 ghost use mir.Val.{toZ, ofZ};
 
-pub(crate) fn from_octet(x: u8) -> i8
+pub fn from_octet(x: u8) -> i8
     ensures { λ r. ⌜ r ≡ toZ w8 x ⌝ }
 {
     if x < 128 {

@@ -1,1 +1,4 @@
+pub mod Laying
+pub mod Numerals
+pub mod OctetWords
 pub mod Places

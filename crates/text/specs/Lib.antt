@@ -1,2 +1,5 @@
--- Text: its parts and pieces.
+-- Text: its parts and pieces, and words that are numbers or octets.
+pub mod Line
+pub mod Numeral
+pub mod OctetWord
 pub mod Place

@@ -1,4 +1,8 @@
 // Looking through text. These functions ask nothing of their numbers: what is past an end is empty.
+pub mod line;
+pub mod number;
+pub mod octet_word;
+
 ghost use mathlib.Core.Path.{_≡_};
 ghost use lib.ListN.{drop};
 ghost use Rattle.text.specs.Place.{plainOf, partOf, placeOf, pieceOf};

@@ -1,0 +1,31 @@
+// The words of a line as numbers, by their places in it. The remainders only say that a number fits.
+use crate::number::read;
+use crate::piece;
+ghost use mathlib.Core.Path.{_≡_};
+ghost use Prim.Native.Nat.{_%_};
+ghost use Rattle.text.specs.Line.{numberAt};
+
+pub fn u64_at(line: &[u8], word: usize) -> u64
+    ensures { λ r. ⌜ r ≡ numberAt (now (line .entry)) word ⌝ }
+{
+    let value = read(piece(line, word, b' '), b'q');
+    value.value
+}
+
+pub fn u32_at(line: &[u8], word: usize) -> u32
+    ensures { λ r. ⌜ r ≡ numberAt (now (line .entry)) word % 4294967296 ⌝ }
+{
+    (u64_at(line, word) % 4294967296) as u32
+}
+
+pub fn u16_at(line: &[u8], word: usize) -> u16
+    ensures { λ r. ⌜ r ≡ numberAt (now (line .entry)) word % 65536 ⌝ }
+{
+    (u64_at(line, word) % 65536) as u16
+}
+
+pub fn u8_at(line: &[u8], word: usize) -> u8
+    ensures { λ r. ⌜ r ≡ numberAt (now (line .entry)) word % 256 ⌝ }
+{
+    (u64_at(line, word) % 256) as u8
+}
