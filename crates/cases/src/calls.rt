@@ -1,80 +1,16 @@
 // The calls. Each has a row among the rows of `run`, with its words' letters (words.rt) and the form of its result
-// line (print.rt); the row's number, from 0 on, stands in `make`, or for the client's calls in client_calls.rt.
+// line (crate print); the row's number, from 0 on, stands in `make` and where that hands it on to. What changes
+// nothing is in the crate queries.
 use crate::client_calls;
 use crate::words;
 use crate::words::i8_at;
-use text::find;
 use text::line::u8_at;
 use text::line::u16_at;
 use text::line::u32_at;
 use text::line::u64_at;
+use text::line::word_of;
 use text::octet_word::lay;
 use text::piece;
-
-pub(crate) fn wide8(x: u8) -> u64 {
-    x as u64
-}
-
-pub(crate) fn wide16(x: u16) -> u64 {
-    x as u64
-}
-
-fn wide32(x: u32) -> u64 {
-    x as u64
-}
-
-fn wide(x: i8) -> i64 {
-    x as i64
-}
-
-// The two's complement of 64 bits, of a negative number by way of -1 less it, which fits.
-pub(crate) fn bits(x: i64) -> u64 {
-    if x < 0 {
-        return u64::MAX - (-1 - x) as u64;
-    }
-    x as u64
-}
-
-// A result that is a refusal or 0, and for some calls octets.
-pub(crate) fn result(row: &[u8], refusal: u8, octets: &[u8]) {
-    print::line(row, &[wide8(refusal), 0], octets);
-}
-
-// Every field of a header, after a 0.
-fn fields(row: &[u8], h: header::Header) {
-    let server = h.server_cookie;
-    let client = h.client_cookie;
-    print::line(
-        row,
-        &[
-            0,
-            wide8(h.leap),
-            wide8(h.mode),
-            wide8(h.stratum),
-            bits(wide(h.poll)),
-            bits(wide(h.precision)),
-            wide8(h.timescale),
-            wide8(h.era),
-            wide16(h.flags),
-            wide32(h.root_delay),
-            wide32(h.root_dispersion),
-            server.0,
-            client.0,
-            h.receive,
-            h.transmit,
-        ],
-        row,
-    );
-}
-
-// header MODE OCTETS
-fn call_header(row: &[u8], line: &[u8], datagram: &[u8]) {
-    let reading = header::read(datagram, u8_at(line, 1));
-    match reading {
-        header::Reading::Refused(number) => result(row, number, datagram),
-        header::Reading::Fields(h) => fields(row, h),
-    }
-}
 
 // The header of a line's first fourteen words.
 fn header_of(line: &[u8]) -> header::Header {
@@ -96,61 +32,40 @@ fn header_of(line: &[u8]) -> header::Header {
     }
 }
 
-// weight FILTER
-fn call_weight(row: &[u8], filter: &[u8]) {
-    let weighing = filter::weigh(filter);
-    match weighing {
-        filter::Weighing::Refused(number) => result(row, number, filter),
-        filter::Weighing::Weight(bits) => print::line(row, &[0, wide16(bits)], filter),
+// The calls that change their output only. Answers the refusal or 0.
+fn fill(call: usize, line: &[u8], octets: &[u8], output: &mut [u8], table: &[u8]) -> u8 {
+    match call {
+        1 => header::write(header_of(line), output),
+        3 => filter::add_id(output, octets),
+        4 => filter::unite(output, octets),
+        _ => client_calls::publish(line, octets, output, table),
     }
-}
-
-// measure T1 T2 T3 T4
-fn call_measure(row: &[u8], t1: u64, t2: u64, t3: u64, t4: u64) {
-    print::line(
-        row,
-        &[
-            bits(measure::offset(t1, t2, t3, t4)),
-            measure::delay(t1, t2, t3, t4),
-        ],
-        row,
-    );
 }
 
 // The call of this number, and its result. `octets` are those of its letter I, and `output` those of its letter O.
 fn make(call: usize, row: &[u8], line: &[u8], octets: &[u8], output: &mut [u8], table: &mut [u8]) {
     match call {
-        0 => call_header(row, line, octets),
-        1 => result(row, header::write(header_of(line), output), output),
-        2 => result(row, chain::sound(octets, u8_at(line, 1)), octets),
-        3 => result(row, filter::add_id(output, octets), output),
-        4 => result(row, filter::unite(output, octets), output),
-        5 => call_weight(row, octets),
-        6 => call_measure(
-            row,
-            u64_at(line, 1),
-            u64_at(line, 2),
-            u64_at(line, 3),
-            u64_at(line, 4),
-        ),
-        _ => client_calls::make(call, row, line, octets, output, table),
+        1 | 3 | 4 | 14 => print::result(row, fill(call, line, octets, output, table), output),
+        7 | 8 | 9 | 11 => print::result(row, client_calls::change(call, line, table), row),
+        10 => client_calls::poll(row, line, output, table),
+        12 => client_calls::receive(row, line, octets, table),
+        _ => queries::make(call, row, line, octets, table),
     }
 }
 
-// The word of this letter, or none.
-fn word_of<'a>(line: &'a [u8], row: &[u8], letter: u8) -> &'a [u8] {
-    piece(line, find(piece(row, 1, b' '), 0, letter, true) + 1, b' ')
+fn run_with(call: usize, row: &[u8], line: &[u8], octets: &[u8], table: &mut [u8]) {
+    let mut output = io::buffer();
+    let laid = lay(word_of(line, row, b'O'), &mut output);
+    let n = (laid.value % 4097) as usize;
+    make(call, row, line, octets, &mut output[0..n], table);
 }
 
 // Runs a line that was checked.
 fn run_row(call: usize, row: &[u8], line: &[u8], table: &mut [u8]) {
     let mut octets = io::buffer();
-    let mut output = io::buffer();
-    let read = lay(word_of(line, row, b'I'), &mut octets);
-    let changed = lay(word_of(line, row, b'O'), &mut output);
-    let n = (read.value % 4097) as usize;
-    let m = (changed.value % 4097) as usize;
-    make(call, row, line, &octets[0..n], &mut output[0..m], table);
+    let laid = lay(word_of(line, row, b'I'), &mut octets);
+    let n = (laid.value % 4097) as usize;
+    run_with(call, row, line, &octets[0..n], table);
 }
 
 // The number of the row with this name, or 64 where no row has it.

@@ -82,6 +82,9 @@ pub(crate) fn i8_at(line: &[u8], word: usize) -> i8 {
     header::sign::from_octet((value.value % 256) as u8)
 }
 
-pub(crate) fn is_interleaved(line: &[u8], word: usize) -> bool {
-    check::same(piece(line, word, b' '), b"interleaved")
+pub(crate) fn mode_at(line: &[u8], word: usize) -> client::Mode {
+    if check::same(piece(line, word, b' '), b"interleaved") {
+        return client::Mode::Interleaved;
+    }
+    client::Mode::Basic
 }

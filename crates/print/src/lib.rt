@@ -9,6 +9,8 @@
 //
 // A call returns nothing and leaves every octet that it was lent as it was, which is all that a contract can say:
 // what goes to standard output is outside the logic, and is compared where a program is run.
+pub mod convert;
+
 use octets::number::get8;
 use text::find;
 use text::part;
@@ -112,6 +114,13 @@ pub fn line(row: &[u8], values: &[u64], octets: &[u8])
         k += 1;
     }
     octet(b'\n');
+}
+
+// The row with a refusal or 0, and for some rows octets.
+pub fn result(row: &[u8], refusal: u8, octets: &[u8])
+    ensures { λ r. ⌜ r ≡ tt ⌝ }
+{
+    line(row, &[refusal as u64, 0], octets);
 }
 
 // What is wrong with which word of a line.

@@ -1,9 +1,14 @@
 -- The words of a line, which stand between spaces.
+use mathlib.Core.Bool.{true}
 use mathlib.Core.List.{List}
-use Prim.Native.Nat.{ℕ}
+use Prim.Native.Nat.{ℕ, _+_}
 use Rattle.text.specs.Numeral.{readOf}
-use Rattle.text.specs.Place.{pieceOf}
+use Rattle.text.specs.Place.{pieceOf, placeOf}
 
 -- the number that a word is, of at most 64 bits
 unfoldable pub numberAt : List ℕ → ℕ → ℕ
 numberAt line word = readOf 113 (pieceOf line word 32) .value
+
+-- the word whose letter stands in the second word of a row; past the last where none does
+unfoldable pub wordOf : List ℕ → List ℕ → ℕ → List ℕ
+wordOf line row letter = pieceOf line (placeOf (pieceOf row 1 32) 0 letter true + 1) 32

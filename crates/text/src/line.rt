@@ -1,9 +1,10 @@
-// The words of a line as numbers, by their places in it. The remainders only say that a number fits.
+// The words of a line, by their places in it or by their letters in a row. The remainders only say that a number fits.
+use crate::find;
 use crate::number::read;
 use crate::piece;
 ghost use mathlib.Core.Path.{_≡_};
 ghost use Prim.Native.Nat.{_%_};
-ghost use Rattle.text.specs.Line.{numberAt};
+ghost use Rattle.text.specs.Line.{numberAt, wordOf};
 
 pub fn u64_at(line: &[u8], word: usize) -> u64
     ensures { λ r. ⌜ r ≡ numberAt (now (line .entry)) word ⌝ }
@@ -28,4 +29,11 @@ pub fn u8_at(line: &[u8], word: usize) -> u8
     ensures { λ r. ⌜ r ≡ numberAt (now (line .entry)) word % 256 ⌝ }
 {
     (u64_at(line, word) % 256) as u8
+}
+
+// The word whose letter stands in the second word of a row, or none.
+pub fn word_of<'a>(line: &'a [u8], row: &[u8], letter: u8) -> &'a [u8]
+    ensures { λ r. ⌜ now r ≡ wordOf (now (line .entry)) (now (row .entry)) letter ⌝ }
+{
+    piece(line, find(piece(row, 1, b' '), 0, letter, true) + 1, b' ')
 }

@@ -1,8 +1,8 @@
--- `bits` is safe: -1 less a negative number is not negative and fits.
+-- `from_i64` meets its contract: -1 less a negative number is not negative and fits.
 -- Assumes nothing.
 use mathlib.Core.Path.{_≡_, _∙_, ap, subst, subst⁻¹}
 use mathlib.Core.Bool.{true, false}
-use Prim.Native.Nat.{_≤_}
+use Prim.Native.Nat.{_-_, _≤_}
 use native.Mathlib.Omega.{arith}
 use lib.Dec.{T}
 use lib.IntN.{ℤ, pos, negsuc, natAbs, _-ℤ_}
@@ -11,9 +11,9 @@ use mir.Syntax.{w64}
 use mir.Val.{SFits, Fits, toZ, ofZ}
 use mir.Facts.{toZ-ofZ}
 use borrow.Author.Needs.{needs}
-use Rattle.cases.proofs.Signed.{less, not-negative}
-use Rattle.cases.proofs.calls.bits.Statement.{statement}
-use Rattle.cases.proofs.calls.bits.Tie as tie
+use Rattle.print.proofs.Signs.{less, not-negative, negative-bits, other-bits}
+use Rattle.print.proofs.convert.from_i64.Statement.{statement}
+use Rattle.print.proofs.convert.from_i64.Tie as tie
 
 -- the difference is the number of bits set
 difference : (c : tie.Then1) → negsuc 0 -ℤ toZ w64 (ofZ w64 (c .before .args .x)) ≡ pos (mag (c .before .args .x))
@@ -37,7 +37,10 @@ sub-result-2 c =
     subst⁻¹ (λ (y : ℤ). natAbs y ≤ 18446744073709551615) (toZ-ofZ (sub-result c) ∙ difference c) (omega arith)
 
 returns : tie.Need-returns
-returns c = search needs
+returns c =
+    let f = c .before .fits .x in
+    ap (λ (y : ℤ). 18446744073709551615 - natAbs y) (toZ-ofZ (sub-result c) ∙ difference c)
+    ∙ negative-bits (c .before .args .x) (subst (λ (y : ℤ). ltZ y (pos 0) ≡ true) (toZ-ofZ f) (c .if1 .taken))
 
 cast-result-2 : tie.Need-cast-result-2
 cast-result-2 c =
@@ -48,7 +51,10 @@ cast-result-2 c =
     (tt, record { fits = omega arith })
 
 returns-2 : tie.Need-returns-2
-returns-2 c = search needs
+returns-2 c =
+    let f = c .before .fits .x in
+    let t = subst (λ (y : ℤ). ltZ y (pos 0) ≡ false) (toZ-ofZ f) (c .if1 .left) in
+    ap natAbs (toZ-ofZ f ∙ not-negative (c .before .args .x) t) ∙ other-bits (c .before .args .x) t
 
-pub bits-spec : {M : Type 1} → statement M
-bits-spec = tie.close (tie.spec sub-result cast-result sub-result-2 returns cast-result-2 returns-2)
+pub from-i64-spec : {M : Type 1} → statement M
+from-i64-spec = tie.close (tie.spec sub-result cast-result sub-result-2 returns cast-result-2 returns-2)
