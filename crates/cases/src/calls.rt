@@ -1,63 +1,20 @@
 // The calls. Each has a row among the rows of `run`, with its words' letters (words.rt) and the form of its result
-// line (crate print); the row's number, from 0 on, stands in `make` and where that hands it on to. What changes
-// nothing is in the crate queries.
+// line (crate print). The row's number, from 0 on, stands in `make` here for a call that changes the client's table,
+// and in the crate queries for any other.
 use crate::client_calls;
 use crate::words;
-use crate::words::i8_at;
-use text::line::u8_at;
-use text::line::u16_at;
-use text::line::u32_at;
-use text::line::u64_at;
 use text::line::word_of;
 use text::octet_word::lay;
 use text::piece;
 
-// The header of a line's first fourteen words.
-fn header_of(line: &[u8]) -> header::Header {
-    header::Header {
-        leap: u8_at(line, 1),
-        mode: u8_at(line, 2),
-        stratum: u8_at(line, 3),
-        poll: i8_at(line, 4),
-        precision: i8_at(line, 5),
-        timescale: u8_at(line, 6),
-        era: u8_at(line, 7),
-        flags: u16_at(line, 8),
-        root_delay: u32_at(line, 9),
-        root_dispersion: u32_at(line, 10),
-        server_cookie: header::ServerCookie(u64_at(line, 11)),
-        client_cookie: header::ClientCookie(u64_at(line, 12)),
-        receive: u64_at(line, 13),
-        transmit: u64_at(line, 14),
-    }
-}
-
-// The calls that change their output only. Answers the refusal or 0.
-fn fill(call: usize, line: &[u8], octets: &[u8], output: &mut [u8], table: &[u8]) -> u8 {
+// The call of this number, and its result. `octets` are those of its letter I.
+fn make(call: usize, row: &[u8], line: &[u8], octets: &[u8], table: &mut [u8]) {
     match call {
-        1 => header::write(header_of(line), output),
-        3 => filter::add_id(output, octets),
-        4 => filter::unite(output, octets),
-        _ => client_calls::publish(line, octets, output, table),
-    }
-}
-
-// The call of this number, and its result. `octets` are those of its letter I, and `output` those of its letter O.
-fn make(call: usize, row: &[u8], line: &[u8], octets: &[u8], output: &mut [u8], table: &mut [u8]) {
-    match call {
-        1 | 3 | 4 | 14 => print::result(row, fill(call, line, octets, output, table), output),
         7 | 8 | 9 | 11 => print::result(row, client_calls::change(call, line, table), row),
-        10 => client_calls::poll(row, line, output, table),
+        10 => client_calls::poll(row, line, table),
         12 => client_calls::receive(row, line, octets, table),
         _ => queries::make(call, row, line, octets, table),
     }
-}
-
-fn run_with(call: usize, row: &[u8], line: &[u8], octets: &[u8], table: &mut [u8]) {
-    let mut output = io::buffer();
-    let laid = lay(word_of(line, row, b'O'), &mut output);
-    let n = (laid.value % 4097) as usize;
-    make(call, row, line, octets, &mut output[0..n], table);
 }
 
 // Runs a line that was checked.
@@ -65,7 +22,7 @@ fn run_row(call: usize, row: &[u8], line: &[u8], table: &mut [u8]) {
     let mut octets = io::buffer();
     let laid = lay(word_of(line, row, b'I'), &mut octets);
     let n = (laid.value % 4097) as usize;
-    run_with(call, row, line, &octets[0..n], table);
+    make(call, row, line, &octets[0..n], table);
 }
 
 // The number of the row with this name, or 64 where no row has it.

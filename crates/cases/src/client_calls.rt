@@ -1,12 +1,14 @@
-// The client's calls that change its table, or its output: on the one table of the case file.
-use crate::words::i8_at;
+// The client's calls that change its table, the one table of the case file.
 use crate::words::mode_at;
 use print::convert::from_i64;
 use print::convert::from_u8;
 use print::convert::from_u16;
+use text::line::i8_at;
 use text::line::u8_at;
 use text::line::u16_at;
 use text::line::u64_at;
+use text::line::word_of;
+use text::octet_word::lay;
 
 // The calls whose result is a refusal or 0.
 pub(crate) fn change(call: usize, line: &[u8], table: &mut [u8]) -> u8 {
@@ -19,20 +21,26 @@ pub(crate) fn change(call: usize, line: &[u8], table: &mut [u8]) -> u8 {
 }
 
 // poll A COOKIE EXPONENT MODE OUTPUT
-pub(crate) fn poll(row: &[u8], line: &[u8], output: &mut [u8], table: &mut [u8]) {
-    let cookie = header::ClientCookie(u64_at(line, 2));
+fn poll_into(row: &[u8], line: &[u8], output: &mut [u8], table: &mut [u8]) {
     let polled = client::poll(
         table,
         u8_at(line, 1),
-        cookie,
+        header::ClientCookie(u64_at(line, 2)),
         i8_at(line, 3),
         mode_at(line, 4),
         output,
     );
     match polled {
-        client::Polled::Refused(number) => print::result(row, number, output),
+        client::Polled::Refused(number) => print::result(row, number, row),
         client::Polled::Written(length) => print::line(row, &[0, from_u16(length), 0], output),
     }
+}
+
+pub(crate) fn poll(row: &[u8], line: &[u8], table: &mut [u8]) {
+    let mut output = io::buffer();
+    let laid = lay(word_of(line, row, b'O'), &mut output);
+    let n = (laid.value % 4097) as usize;
+    poll_into(row, line, &mut output[0..n], table);
 }
 
 // receive A T4 OCTETS
@@ -51,14 +59,5 @@ pub(crate) fn receive(row: &[u8], line: &[u8], datagram: &[u8], table: &mut [u8]
             ],
             datagram,
         ),
-    }
-}
-
-// publish SELECTED ID OUTPUT
-pub(crate) fn publish(line: &[u8], id: &[u8], output: &mut [u8], table: &[u8]) -> u8 {
-    let published = client::publish(table, u16_at(line, 1), id, output);
-    match published {
-        client::Published::Refused(number) => number,
-        client::Published::Written => 0,
     }
 }

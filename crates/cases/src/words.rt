@@ -77,11 +77,6 @@ pub(crate) fn check(line: &[u8], row: &[u8]) -> Fault {
     }
 }
 
-pub(crate) fn i8_at(line: &[u8], word: usize) -> i8 {
-    let value = read(piece(line, word, b' '), b's');
-    header::sign::from_octet((value.value % 256) as u8)
-}
-
 pub(crate) fn mode_at(line: &[u8], word: usize) -> client::Mode {
     if check::same(piece(line, word, b' '), b"interleaved") {
         return client::Mode::Interleaved;

@@ -1,98 +1,17 @@
-// The calls of a case file that change nothing: header, sound, weight, measure and verdict. Each prints its result
-// line. As in `print`, what it prints is outside the logic, so that a contract says all that is left: a call returns
-// nothing and leaves every octet that it was lent as it was.
-use print::convert::from_i8;
-use print::convert::from_i64;
-use print::convert::from_u8;
-use print::convert::from_u16;
-use print::convert::from_u32;
-use text::line::u8_at;
-use text::line::u64_at;
+// The calls of a case file that change nothing that they are lent: all but those that change the client's table. Each
+// prints its result line. As in `print`, what it prints is outside the logic, so that a contract says all that is left:
+// a call returns nothing and leaves every octet as it was.
+mod outputs;
+mod views;
+
 ghost use mathlib.Core.Path.{_≡_};
-
-// Every field of a header, after a 0.
-fn fields(row: &[u8], h: header::Header) {
-    let server = h.server_cookie;
-    let client = h.client_cookie;
-    print::line(
-        row,
-        &[
-            0,
-            from_u8(h.leap),
-            from_u8(h.mode),
-            from_u8(h.stratum),
-            from_i8(h.poll),
-            from_i8(h.precision),
-            from_u8(h.timescale),
-            from_u8(h.era),
-            from_u16(h.flags),
-            from_u32(h.root_delay),
-            from_u32(h.root_dispersion),
-            server.0,
-            client.0,
-            h.receive,
-            h.transmit,
-        ],
-        row,
-    );
-}
-
-// header MODE OCTETS
-fn call_header(row: &[u8], line: &[u8], datagram: &[u8]) {
-    let reading = header::read(datagram, u8_at(line, 1));
-    match reading {
-        header::Reading::Refused(number) => print::result(row, number, datagram),
-        header::Reading::Fields(h) => fields(row, h),
-    }
-}
-
-// weight FILTER
-fn call_weight(row: &[u8], filter: &[u8]) {
-    let weighing = filter::weigh(filter);
-    match weighing {
-        filter::Weighing::Refused(number) => print::result(row, number, filter),
-        filter::Weighing::Weight(weight) => print::line(row, &[0, from_u16(weight)], filter),
-    }
-}
-
-// measure T1 T2 T3 T4
-fn call_measure(row: &[u8], t1: u64, t2: u64, t3: u64, t4: u64) {
-    print::line(
-        row,
-        &[
-            from_i64(measure::offset(t1, t2, t3, t4)),
-            measure::delay(t1, t2, t3, t4),
-        ],
-        row,
-    );
-}
-
-// verdict A ID
-fn call_verdict(row: &[u8], line: &[u8], id: &[u8], table: &[u8]) {
-    let verdict = client::loop_verdict(table, u8_at(line, 1), id);
-    match verdict {
-        client::Verdict::Refused(number) => print::result(row, number, id),
-        client::Verdict::Incomplete => print::line(row, &[0, 1], id),
-        client::Verdict::Loop => print::line(row, &[0, 2], id),
-        client::Verdict::Clear => print::line(row, &[0, 3], id),
-    }
-}
 
 // The call of this number, and its result. `octets` are those of its letter I, and `table` is the client's.
 pub fn make(call: usize, row: &[u8], line: &[u8], octets: &[u8], table: &[u8])
     ensures { λ r. ⌜ r ≡ tt ⌝ }
 {
     match call {
-        0 => call_header(row, line, octets),
-        2 => print::result(row, chain::sound(octets, u8_at(line, 1)), octets),
-        5 => call_weight(row, octets),
-        6 => call_measure(
-            row,
-            u64_at(line, 1),
-            u64_at(line, 2),
-            u64_at(line, 3),
-            u64_at(line, 4),
-        ),
-        _ => call_verdict(row, line, octets, table),
+        1 | 3 | 4 | 14 => outputs::make(call, row, line, octets, table),
+        _ => views::make(call, row, line, octets, table),
     }
 }

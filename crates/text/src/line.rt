@@ -2,9 +2,10 @@
 use crate::find;
 use crate::number::read;
 use crate::piece;
+use header::sign::from_octet;
 ghost use mathlib.Core.Path.{_≡_};
 ghost use Prim.Native.Nat.{_%_};
-ghost use Rattle.text.specs.Line.{numberAt, wordOf};
+ghost use Rattle.text.specs.Line.{numberAt, signedAt, wordOf};
 
 pub fn u64_at(line: &[u8], word: usize) -> u64
     ensures { λ r. ⌜ r ≡ numberAt (now (line .entry)) word ⌝ }
@@ -29,6 +30,13 @@ pub fn u8_at(line: &[u8], word: usize) -> u8
     ensures { λ r. ⌜ r ≡ numberAt (now (line .entry)) word % 256 ⌝ }
 {
     (u64_at(line, word) % 256) as u8
+}
+
+pub fn i8_at(line: &[u8], word: usize) -> i8
+    ensures { λ r. ⌜ r ≡ signedAt (now (line .entry)) word ⌝ }
+{
+    let value = read(piece(line, word, b' '), b's');
+    from_octet((value.value % 256) as u8)
 }
 
 // The word whose letter stands in the second word of a row, or none.

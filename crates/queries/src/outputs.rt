@@ -1,0 +1,59 @@
+// The calls that change an output buffer, whose octets stand in the line: write, add, union and publish.
+use text::line::i8_at;
+use text::line::u8_at;
+use text::line::u16_at;
+use text::line::u32_at;
+use text::line::u64_at;
+use text::line::word_of;
+use text::octet_word::lay;
+
+// The header of a line's first fourteen words.
+fn header_of(line: &[u8]) -> header::Header {
+    header::Header {
+        leap: u8_at(line, 1),
+        mode: u8_at(line, 2),
+        stratum: u8_at(line, 3),
+        poll: i8_at(line, 4),
+        precision: i8_at(line, 5),
+        timescale: u8_at(line, 6),
+        era: u8_at(line, 7),
+        flags: u16_at(line, 8),
+        root_delay: u32_at(line, 9),
+        root_dispersion: u32_at(line, 10),
+        server_cookie: header::ServerCookie(u64_at(line, 11)),
+        client_cookie: header::ClientCookie(u64_at(line, 12)),
+        receive: u64_at(line, 13),
+        transmit: u64_at(line, 14),
+    }
+}
+
+// publish SELECTED ID OUTPUT
+fn publish(line: &[u8], id: &[u8], output: &mut [u8], table: &[u8]) -> u8 {
+    let published = client::publish(table, u16_at(line, 1), id, output);
+    match published {
+        client::Published::Refused(number) => number,
+        client::Published::Written => 0,
+    }
+}
+
+// Answers the refusal or 0.
+fn change(call: usize, line: &[u8], octets: &[u8], output: &mut [u8], table: &[u8]) -> u8 {
+    match call {
+        1 => header::write(header_of(line), output),
+        3 => filter::add_id(output, octets),
+        4 => filter::unite(output, octets),
+        _ => publish(line, octets, output, table),
+    }
+}
+
+fn show(call: usize, row: &[u8], line: &[u8], octets: &[u8], output: &mut [u8], table: &[u8]) {
+    print::result(row, change(call, line, octets, output, table), output);
+}
+
+// The call of this number on the octets of its letter O, which are printed afterwards.
+pub(crate) fn make(call: usize, row: &[u8], line: &[u8], octets: &[u8], table: &[u8]) {
+    let mut output = io::buffer();
+    let laid = lay(word_of(line, row, b'O'), &mut output);
+    let n = (laid.value % 4097) as usize;
+    show(call, row, line, octets, &mut output[0..n], table);
+}
