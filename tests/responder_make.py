@@ -76,6 +76,7 @@ def record(cookie, time):
 
 def storing(lines):
     lines.group("The store: its size; what it may not hold, refused with 6 by report and answer, and mended by clearing")
+    lines.report(1, 5)
     for records in (0, 1, 64, 65, 255):
         lines.clear(records)
     wrong = [b"", bytes(15), bytes(24), bytes(1040), bytes(16) + record(1, 0), record(1, 2) + bytes(16) + record(3, 0),

@@ -34,7 +34,7 @@ class Store:
     """A row of records, each a cookie and its time, in a buffer that the caller lends."""
 
     def __init__(self):
-        self.octets = bytes(16)
+        self.octets = b""      # none is lent yet
 
     def clear(self, records):
         """A buffer of so many records, cleared; where that is refused, the store stays the one before."""

@@ -56,20 +56,20 @@ fn gather(text: &[u8], state: Line, line: &mut [u8]) -> Line {
 }
 
 // Runs the whole line, or says that it is too long.
-fn run_whole(line: &[u8], state: Line, table: &mut [u8]) {
+fn run_whole(line: &[u8], state: Line, table: &mut [u8], kept: &mut [u8]) {
     if state.length > line.len() {
         print::problem(state.number, 0, words::TOO_LONG);
         return;
     }
-    calls::run(part(line, 0, state.length), state.number, table);
+    calls::run(part(line, 0, state.length), state.number, table, kept);
 }
 
 // Runs the line if it has ended.
-fn finish(line: &[u8], state: Line, table: &mut [u8]) -> Line {
+fn finish(line: &[u8], state: Line, table: &mut [u8], kept: &mut [u8]) -> Line {
     if !state.ended {
         return state;
     }
-    run_whole(line, state, table);
+    run_whole(line, state, table, kept);
     Line {
         number: std::num::wrapping_add_u64(state.number, 1),
         length: 0,
@@ -87,6 +87,7 @@ pub(crate) fn run_all() {
     let mut text = io::large_buffer();
     let mut line = io::large_buffer();
     let mut table = [0u8; 10240];
+    let mut kept = [0u8; 4098];
     let mut state = Line {
         number: 1,
         length: 0,
@@ -101,6 +102,6 @@ pub(crate) fn run_all() {
         turns -= 1;
         state = refill(&mut text, state);
         state = gather(part(&text, 0, state.count), state, &mut line);
-        state = finish(&line, state, &mut table);
+        state = finish(&line, state, &mut table, &mut kept);
     }
 }

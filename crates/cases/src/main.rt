@@ -2,6 +2,7 @@
 mod calls;
 mod client_calls;
 mod input;
+mod responder_calls;
 mod words;
 
 fn main() {

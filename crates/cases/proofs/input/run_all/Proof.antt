@@ -6,10 +6,10 @@ use Rattle.cases.proofs.input.run_all.Statement.{statement}
 use Rattle.cases.proofs.input.run_all.Tie as tie
 
 abbrev Inv-loop : tie.InvT-loop
-Inv-loop text₀ line₀ table₀ state₀ turns₀ text line table state turns = (length text ≡ 65536) × (length line ≡ 65536) × (length table ≡ 10240)
+Inv-loop text₀ line₀ table₀ kept₀ state₀ turns₀ text line table kept state turns = (length text ≡ 65536) × (length line ≡ 65536) × (length table ≡ 10240) × (length kept ≡ 4098)
 
 abbrev μ-loop : tie.MeasureT-loop
-μ-loop text₀ line₀ table₀ state₀ turns₀ text line table state turns = turns
+μ-loop text₀ line₀ table₀ kept₀ state₀ turns₀ text line table kept state turns = turns
 
 large-buffer-requires : tie.Need-large-buffer-requires Inv-loop μ-loop
 large-buffer-requires c κs = search needs
@@ -47,6 +47,9 @@ slice-aggregate-finish c = search needs
 slice-aggregate-finish-2 : tie.Need-slice-aggregate-finish-2 Inv-loop μ-loop
 slice-aggregate-finish-2 c = search needs
 
+slice-aggregate-finish-3 : tie.Need-slice-aggregate-finish-3 Inv-loop μ-loop
+slice-aggregate-finish-3 c = search needs
+
 finish-requires : tie.Need-finish-requires Inv-loop μ-loop
 finish-requires c κs = search needs
 
@@ -80,6 +83,7 @@ run-all-spec =
     gather-requires
     slice-aggregate-finish
     slice-aggregate-finish-2
+    slice-aggregate-finish-3
     finish-requires
     loop-less
     loop-again

@@ -1,0 +1,134 @@
+// The responder's calls, on the one store of the case file. `kept` is its length, two octets, and then its octets.
+use octets::number;
+use octets::part;
+use print::convert::from_u16;
+use text::line::i8_at;
+use text::line::u8_at;
+use text::line::u16_at;
+use text::line::u32_at;
+use text::line::u64_at;
+use text::octet_word::lay;
+use text::piece;
+ghost use Prim.Native.Nat.{_≤_};
+ghost use lib.ListN.{length};
+
+// Where the store ends.
+fn end(kept: &[u8]) -> usize
+    requires { ⌜ 4098 ≤ length (now kept) ⌝ }
+    ensures { λ r. ⌜ (2 ≤ r) × (r ≤ 4098) ⌝ }
+{
+    (number::get16(kept, 0) % 4097) as usize + 2
+}
+
+// store N
+fn clear(line: &[u8], kept: &mut [u8]) -> u8
+    requires { ⌜ 4098 ≤ length (now kept) ⌝ }
+{
+    let n = u8_at(line, 1) as usize * 16;
+    let refusal = store::clear(&mut kept[2..n + 2]);
+    if refusal == 0 {
+        number::put16(kept, 0, n as u16);
+    }
+    refusal
+}
+
+// lend OCTETS
+fn lend(octets: &[u8], kept: &mut [u8]) {
+    let n = octets.len() % 4097;
+    number::put16(kept, 0, n as u16);
+    part::copy(kept, 2, octets, 0, n);
+}
+
+// The server's values, from the fifth word on.
+fn server_of(line: &[u8]) -> responder::Server {
+    responder::Server {
+        leap: u8_at(line, 5),
+        stratum: u8_at(line, 6),
+        poll: i8_at(line, 7),
+        precision: i8_at(line, 8),
+        timescale: u8_at(line, 9),
+        era: u8_at(line, 10),
+        flags: u16_at(line, 11),
+        root_delay: u32_at(line, 12),
+        root_dispersion: u32_at(line, 13),
+    }
+}
+
+fn answer_into(
+    row: &[u8],
+    line: &[u8],
+    request: &[u8],
+    filter: &[u8],
+    information: &[u8],
+    output: &mut [u8],
+    store: &mut [u8],
+) {
+    let answered = responder::answer(
+        store,
+        request,
+        u64_at(line, 2),
+        u64_at(line, 3),
+        header::ServerCookie(u64_at(line, 4)),
+        server_of(line),
+        filter,
+        information,
+        output,
+    );
+    match answered {
+        responder::Answered::Refused(number) => print::result(row, number, row),
+        responder::Answered::Written(length) => print::line(row, &[0, from_u16(length), 0], output),
+    }
+}
+
+fn answer_from(row: &[u8], line: &[u8], request: &[u8], filter: &[u8], store: &mut [u8]) {
+    let mut information = io::buffer();
+    let mut output = io::buffer();
+    let told = lay(piece(line, 15, b' '), &mut information);
+    let laid = lay(piece(line, 16, b' '), &mut output);
+    let m = (told.value % 4097) as usize;
+    let n = (laid.value % 4097) as usize;
+    answer_into(
+        row,
+        line,
+        request,
+        filter,
+        &information[0..m],
+        &mut output[0..n],
+        store,
+    );
+}
+
+// answer REQUEST RECEIVE ESTIMATE FRESH, the server's values, FILTER INFORMATION OUTPUT
+fn answer(row: &[u8], line: &[u8], request: &[u8], store: &mut [u8]) {
+    let mut filter = io::buffer();
+    let laid = lay(piece(line, 14, b' '), &mut filter);
+    let n = (laid.value % 4097) as usize;
+    answer_from(row, line, request, &filter[0..n], store);
+}
+
+// report COOKIE TIME
+fn report(row: &[u8], line: &[u8], store: &mut [u8]) {
+    let refusal = store::report(
+        store,
+        header::ServerCookie(u64_at(line, 1)),
+        u64_at(line, 2),
+    );
+    print::result(row, refusal, store);
+}
+
+// The call of this number, and its result.
+pub(crate) fn make(call: usize, row: &[u8], line: &[u8], octets: &[u8], kept: &mut [u8]) {
+    if kept.len() < 4098 {
+        return;
+    }
+    let end = end(kept);
+    match call {
+        15 => print::result(row, clear(line, kept), row),
+        16 => {
+            lend(octets, kept);
+            print::line(row, &[0], octets)
+        }
+        17 => report(row, line, &mut kept[2..end]),
+        _ => answer(row, line, octets, &mut kept[2..end]),
+    }
+}
