@@ -2,11 +2,7 @@
 use octets::number;
 use octets::part;
 use print::convert::from_u16;
-use text::line::i8_at;
 use text::line::u8_at;
-use text::line::u16_at;
-use text::line::u32_at;
-use text::line::u64_at;
 use text::octet_word::lay;
 use text::piece;
 ghost use Prim.Native.Nat.{_≤_};
@@ -39,21 +35,6 @@ fn lend(octets: &[u8], kept: &mut [u8]) {
     part::copy(kept, 2, octets, 0, n);
 }
 
-// The server's values, from the fifth word on.
-fn server_of(line: &[u8]) -> responder::Server {
-    responder::Server {
-        leap: u8_at(line, 5),
-        stratum: u8_at(line, 6),
-        poll: i8_at(line, 7),
-        precision: i8_at(line, 8),
-        timescale: u8_at(line, 9),
-        era: u8_at(line, 10),
-        flags: u16_at(line, 11),
-        root_delay: u32_at(line, 12),
-        root_dispersion: u32_at(line, 13),
-    }
-}
-
 fn answer_into(
     row: &[u8],
     line: &[u8],
@@ -63,17 +44,7 @@ fn answer_into(
     output: &mut [u8],
     store: &mut [u8],
 ) {
-    let answered = responder::answer(
-        store,
-        request,
-        u64_at(line, 2),
-        u64_at(line, 3),
-        header::ServerCookie(u64_at(line, 4)),
-        server_of(line),
-        filter,
-        information,
-        output,
-    );
+    let answered = actions::answer(line, request, filter, information, output, store);
     match answered {
         responder::Answered::Refused(number) => print::result(row, number, row),
         responder::Answered::Written(length) => print::line(row, &[0, from_u16(length), 0], output),
@@ -108,11 +79,7 @@ fn answer(row: &[u8], line: &[u8], request: &[u8], store: &mut [u8]) {
 
 // report COOKIE TIME
 fn report(row: &[u8], line: &[u8], store: &mut [u8]) {
-    let refusal = store::report(
-        store,
-        header::ServerCookie(u64_at(line, 1)),
-        u64_at(line, 2),
-    );
+    let refusal = actions::report(line, store);
     print::result(row, refusal, store);
 }
 

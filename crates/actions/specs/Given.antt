@@ -1,0 +1,36 @@
+-- What the words of an `answer` line give the responder.
+use mathlib.Core.List.{List}
+use Prim.Native.Nat.{ℕ, _%_, _^_}
+use Rattle.text.specs.Line.{numberAt, signedAt}
+use Rattle.responder.specs.Answer.{Given}
+use Rattle.responder.specs.declared.Server.{Server}
+
+-- a word as a number of so many bits
+abbrev pub bitsAt : ℕ → List ℕ → ℕ → ℕ
+bitsAt bits line word = numberAt line word % 2 ^ bits
+
+-- the server's values, from the fifth word on
+abbrev pub serverOf : List ℕ → Server
+serverOf line = record {
+  leap = bitsAt 8 line 5;
+  stratum = bitsAt 8 line 6;
+  poll = signedAt line 7;
+  precision = signedAt line 8;
+  timescale = bitsAt 8 line 9;
+  era = bitsAt 8 line 10;
+  flags = bitsAt 16 line 11;
+  «root_delay» = bitsAt 32 line 12;
+  «root_dispersion» = bitsAt 32 line 13;
+}
+
+-- the second, third and fourth word, and octets that other words are
+abbrev pub givenOf : (line request filter information : List ℕ) → Given
+givenOf line request filter information = record {
+  request = request;
+  receive = numberAt line 2;
+  estimate = numberAt line 3;
+  fresh = numberAt line 4;
+  server = serverOf line;
+  filter = filter;
+  information = information;
+}

@@ -1,0 +1,2 @@
+-- What a line of a case file asks.
+pub mod Given
