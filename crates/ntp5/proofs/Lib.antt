@@ -1,0 +1,2 @@
+-- What the proofs of several exports use. Assumes nothing.
+mod Told

@@ -1,0 +1,3 @@
+-- The numbers of the C interface.
+pub mod Numbers
+pub mod Headers

@@ -1,0 +1,133 @@
+// The structs of the C interface. C has no enums that hold values, so each case of a core answer becomes the numbers that document 01 gives it.
+use client::Mode;
+use client::Polled;
+use client::Published;
+use filter::Weighing;
+use responder::Answered;
+ghost use mathlib.Core.Path.{_≡_};
+ghost use Rattle.client.specs.Answers.{isInterleaved};
+ghost use Rattle.ntp5.specs.Numbers.{ofPolled, ofPublished, ofReceived, ofVerdict, ofAnswered, ofWeighing};
+
+// How many octets were written; 0 in a refusal.
+#[repr(C)]
+pub struct Written {
+    pub refusal: u8,
+    pub length: u16,
+}
+
+// A response's judgement 0 to 4, its chunk's outcome 1 to 3, and its measurement.
+#[repr(C)]
+pub struct Received {
+    pub refusal: u8,
+    pub judgement: u8,
+    pub chunk: u8,
+    pub offset: i64,
+    pub delay: u64,
+}
+
+// 1 incomplete, 2 loop, 3 clear; 0 in a refusal.
+#[repr(C)]
+pub struct Verdict {
+    pub refusal: u8,
+    pub verdict: u8,
+}
+
+#[repr(C)]
+pub struct Weight {
+    pub refusal: u8,
+    pub weight: u16,
+}
+
+// C's bool for the mode that a poll wants.
+pub(crate) fn mode(interleaved: bool) -> Mode
+    ensures { λ r. ⌜ isInterleaved r ≡ interleaved ⌝ }
+{
+    if interleaved {
+        Mode::Interleaved
+    } else {
+        Mode::Basic
+    }
+}
+
+pub(crate) fn of_polled(polled: Polled) -> Written
+    ensures { λ r. ⌜ r ≡ ofPolled polled ⌝ }
+{
+    match polled {
+        Polled::Written(length) => Written { refusal: 0, length },
+        Polled::Refused(refusal) => Written { refusal, length: 0 },
+    }
+}
+
+pub(crate) fn of_published(published: Published) -> Written
+    ensures { λ r. ⌜ r ≡ ofPublished published ⌝ }
+{
+    match published {
+        Published::Written => Written {
+            refusal: 0,
+            length: 512,
+        },
+        Published::Refused(refusal) => Written { refusal, length: 0 },
+    }
+}
+
+pub(crate) fn of_answered(answered: Answered) -> Written
+    ensures { λ r. ⌜ r ≡ ofAnswered answered ⌝ }
+{
+    match answered {
+        Answered::Written(length) => Written { refusal: 0, length },
+        Answered::Refused(refusal) => Written { refusal, length: 0 },
+    }
+}
+
+pub(crate) fn of_received(received: client::Received) -> Received
+    ensures { λ r. ⌜ r ≡ ofReceived received ⌝ }
+{
+    match received {
+        client::Received::Accepted(measured) => Received {
+            refusal: 0,
+            judgement: measured.judgement,
+            chunk: measured.chunk,
+            offset: measured.offset,
+            delay: measured.delay,
+        },
+        client::Received::Refused(refusal) => Received {
+            refusal,
+            judgement: 0,
+            chunk: 0,
+            offset: 0,
+            delay: 0,
+        },
+    }
+}
+
+pub(crate) fn of_verdict(verdict: client::Verdict) -> Verdict
+    ensures { λ r. ⌜ r ≡ ofVerdict verdict ⌝ }
+{
+    match verdict {
+        client::Verdict::Incomplete => Verdict {
+            refusal: 0,
+            verdict: 1,
+        },
+        client::Verdict::Loop => Verdict {
+            refusal: 0,
+            verdict: 2,
+        },
+        client::Verdict::Clear => Verdict {
+            refusal: 0,
+            verdict: 3,
+        },
+        client::Verdict::Refused(refusal) => Verdict {
+            refusal,
+            verdict: 0,
+        },
+    }
+}
+
+pub(crate) fn of_weighing(weighing: Weighing) -> Weight
+    ensures { λ r. ⌜ r ≡ ofWeighing weighing ⌝ }
+{
+    match weighing {
+        Weighing::Weight(weight) => Weight { refusal: 0, weight },
+        Weighing::Refused(refusal) => Weight { refusal, weight: 0 },
+    }
+}

@@ -1,0 +1,69 @@
+// The calls on one datagram, one filter or the four times of an exchange.
+use crate::answers;
+use crate::answers::Weight;
+use crate::headers;
+use crate::headers::Header;
+use crate::headers::Read;
+ghost use mathlib.Core.Path.{_≡_};
+ghost use Rattle.header.specs.Header.{refusal, reading, headerOf, written};
+ghost use Rattle.chain.specs.Chain.{soundRefusal};
+ghost use Rattle.filter.specs.Calls.{addId, unite, weighed};
+ghost use Rattle.measure.specs.Measure.{offset, delay};
+ghost use Rattle.ntp5.specs.Numbers.{weightNumbers};
+ghost use Rattle.ntp5.specs.Headers.{readOf, coreHeader};
+
+#[no_mangle]
+pub extern "C" fn ntp5_header_read(datagram: &[u8], wanted_mode: u8) -> Read
+    ensures { λ r. ⌜ r ≡ readOf (reading (refusal (now (datagram .entry)) «wanted_mode») (headerOf (now (datagram .entry)))) ⌝ }
+{
+    headers::read_of(header::read(datagram, wanted_mode))
+}
+
+#[no_mangle]
+pub extern "C" fn ntp5_header_write(fields: Header, out: &mut [u8]) -> u8
+    ensures { λ r. ⌜ (r, now (out .exit)) ≡ written (coreHeader fields) (now (out .entry)) ⌝ }
+{
+    header::write(headers::core_header(fields), out)
+}
+
+#[no_mangle]
+pub extern "C" fn ntp5_sound(datagram: &[u8], wanted_mode: u8) -> u8
+    ensures { λ r. ⌜ r ≡ soundRefusal (now (datagram .entry)) «wanted_mode» ⌝ }
+{
+    chain::sound(datagram, wanted_mode)
+}
+
+#[no_mangle]
+pub extern "C" fn ntp5_filter_add(filter: &mut [u8], id: &[u8]) -> u8
+    ensures { λ r. ⌜ (r, now (filter .exit)) ≡ addId (now (filter .entry)) (now (id .entry)) ⌝ }
+{
+    filter::add_id(filter, id)
+}
+
+#[no_mangle]
+pub extern "C" fn ntp5_filter_union(into: &mut [u8], other: &[u8]) -> u8
+    ensures { λ r. ⌜ (r, now (into .exit)) ≡ unite (now (into .entry)) (now (other .entry)) ⌝ }
+{
+    filter::unite(into, other)
+}
+
+#[no_mangle]
+pub extern "C" fn ntp5_filter_weight(filter: &[u8]) -> Weight
+    ensures { λ r. ⌜ weightNumbers r ≡ weighed (now (filter .entry)) ⌝ }
+{
+    answers::of_weighing(filter::weigh(filter))
+}
+
+#[no_mangle]
+pub extern "C" fn ntp5_offset(t1: u64, t2: u64, t3: u64, t4: u64) -> i64
+    ensures { λ r. ⌜ r ≡ offset t1 t2 t3 t4 ⌝ }
+{
+    measure::offset(t1, t2, t3, t4)
+}
+
+#[no_mangle]
+pub extern "C" fn ntp5_delay(t1: u64, t2: u64, t3: u64, t4: u64) -> u64
+    ensures { λ r. ⌜ r ≡ delay t1 t2 t3 t4 ⌝ }
+{
+    measure::delay(t1, t2, t3, t4)
+}
