@@ -1,0 +1,279 @@
+/*
+ * An NTPv5 time unit (draft-mlichvar-ntp-ntpv5-07) for a main loop in C: a client of up to sixteen servers, a responder with
+ * interleaved mode, and reference-ID filters that show when a controller follows its own clock. Link with libntp5.a.
+ *
+ * The library keeps nothing between calls, allocates nothing and calls nothing of the caller's. All state lies in buffers
+ * that the caller owns and lends for the time of one call: a pointer and the number of octets behind it.
+ *
+ * What the caller answers for, in every call:
+ *   - a pointer points to as many octets as its length says; NULL is allowed with length 0 only;
+ *   - the buffers of one call do not overlap;
+ *   - one buffer is in one call at a time (there are no locks).
+ * Any contents of a buffer are safe: what is wrong is refused.
+ *
+ * A refusal is a number from 1 to 12. It changes no buffer, and the other numbers of the answer are 0. Where several
+ * apply, the first in this order is given: 6, 7, 1, 2, 3, then 4 and 5 field by field, 9, 10, 8, 11, 12.
+ *
+ * COOKIES ARE NEVER USED TWICE. The caller draws every client cookie and every server cookie at random and never gives one
+ * a second time. The library refuses only the repeats that it can see, and with an older cookie given again a late
+ * duplicate of an old datagram can pass as an answer.
+ *
+ * Timestamps have 32 fraction bits and are taken modulo 2^64; 0 means unknown. Root delay and dispersion have 28.
+ */
+#ifndef NTP5_H
+#define NTP5_H
+
+#include <stdbool.h>
+#include <stddef.h>
+#include <stdint.h>
+
+#ifdef __cplusplus
+extern "C" {
+#endif
+
+/* Refusal numbers. */
+enum {
+    NTP5_OK = 0,
+    NTP5_BAD_LENGTH = 1,      /* a datagram's length is not 48 to 1280 or not a multiple of 4 */
+    NTP5_BAD_VERSION = 2,     /* the version is not 5 */
+    NTP5_BAD_MODE = 3,        /* the mode is not the one wanted */
+    NTP5_BAD_FIELD = 4,       /* a field's length is below 4, or its end lies past the datagram */
+    NTP5_BAD_PADDING = 5,     /* an octet after a field, up to the next multiple of 4, is not 0 */
+    NTP5_BAD_ARGUMENT = 6,    /* an argument, or a number kept in a table or store, is out of range, or a size is wrong */
+    NTP5_BAD_STATE = 7,       /* not open, or open already; no send to report; a selected filter not complete */
+    NTP5_BAD_COOKIE = 8,      /* a cookie is 0 or was used before */
+    NTP5_NOT_ASKED = 9,       /* nothing is outstanding, or the client cookie is another one */
+    NTP5_NOT_INTERLEAVED = 10,/* an interleaved response to a request that sent no server cookie */
+    NTP5_NO_ROOM = 11,        /* the output is shorter than what is to be written */
+    NTP5_NOT_STORED = 12      /* the server cookie is not in the store, or its time was reported already */
+};
+
+/* Judgements of an accepted response, the first that applies. Only a usable one has an offset and a delay. */
+enum {
+    NTP5_USABLE = 0,
+    NTP5_UNSYNCHRONIZED = 1,  /* its leap is 3 */
+    NTP5_BAD_STRATUM = 2,     /* its stratum is not 1 to 15 */
+    NTP5_OTHER_TIMESCALE = 3, /* its timescale (if interleaved, also that of the response before) is not the association's */
+    NTP5_TIME_UNKNOWN = 4     /* a timestamp that the measurement needs is 0 */
+};
+
+/* What became of an accepted response's filter chunk. */
+enum {
+    NTP5_CHUNK_TAKEN = 1,
+    NTP5_CHUNK_ABSENT = 2,    /* no filter response: measured, the filter stays as it was */
+    NTP5_CHUNK_OTHER_SIZE = 3 /* not the size that was asked: measured, the filter stays as it was */
+};
+
+/* Loop verdicts. */
+enum {
+    NTP5_VERDICT_INCOMPLETE = 1, /* some filter octets were not received since opening: nothing can be said */
+    NTP5_VERDICT_LOOP = 2,       /* all ten positions of the ID are set: the server follows that ID */
+    NTP5_VERDICT_CLEAR = 3
+};
+
+/* Modes, associations and sizes in octets. */
+enum {
+    NTP5_REQUEST = 3,
+    NTP5_RESPONSE = 4,
+    NTP5_ASSOCIATIONS = 16,
+    NTP5_TABLE_AT_MOST = 16384, /* ntp5_table_octets() gives the size itself */
+    NTP5_STORE_RECORD = 16,     /* a store is 1 to 64 of these */
+    NTP5_HEADER_OCTETS = 48,
+    NTP5_DATAGRAM_AT_MOST = 1280,
+    NTP5_FILTER_OCTETS = 512,
+    NTP5_ID_OCTETS = 15,
+    NTP5_INFORMATION_OCTETS = 4
+};
+
+/* How many octets were written to the start of the output. */
+typedef struct {
+    uint8_t refusal;
+    uint16_t length;
+} ntp5_written;
+
+/* offset: by how much the server's clock is ahead; delay: the time spent on the way. Both with 32 fraction bits. */
+typedef struct {
+    uint8_t refusal;
+    uint8_t judgement;
+    uint8_t chunk;
+    int64_t offset;
+    uint64_t delay;
+} ntp5_received;
+
+typedef struct {
+    uint8_t refusal;
+    uint8_t verdict;
+} ntp5_verdict;
+
+/* How many of a filter's 4096 positions are set. */
+typedef struct {
+    uint8_t refusal;
+    uint16_t weight;
+} ntp5_weight;
+
+/* A header's fields. The version is not among them: it is always 5. */
+typedef struct {
+    uint8_t leap, mode, stratum;
+    int8_t poll, precision;
+    uint8_t timescale, era;
+    uint16_t flags; /* 0x1 unknown leap, 0x2 interleaved; other bits are kept */
+    uint32_t root_delay, root_dispersion;
+    uint64_t server_cookie, client_cookie, receive, transmit;
+} ntp5_header;
+
+typedef struct {
+    uint8_t refusal;
+    ntp5_header header;
+} ntp5_read;
+
+/*
+ * THE CLIENT TABLE
+ *
+ * Sixteen associations, one for each server, in one table of exactly ntp5_table_octets() octets. The caller owns it, clears
+ * it before anything else, and then leaves its octets to these calls. The caller names the association, 0 to 15, on every
+ * call, and for a received datagram finds it by the datagram's source address.
+ *
+ * Every call refuses with 6 a table of another size, an association above 15, and an association whose numbers in the table
+ * are out of range, which can come about only if something else wrote there; clearing checks the size alone.
+ */
+
+/* The size of a table. It does not change while the library is linked. */
+size_t ntp5_table_octets(void);
+
+/* Closes all sixteen associations. Refuses: 6. */
+uint8_t ntp5_clear(uint8_t *table, size_t table_len);
+
+/*
+ * Opens an association for a server of this timescale, with an empty filter that will be asked for in chunks of 16, 32, 64,
+ * 128, 256 or 512 octets. Refuses: 6 (also another chunk size), 7 if it is open already.
+ */
+uint8_t ntp5_open(uint8_t *table, size_t table_len, uint8_t association, uint8_t timescale, uint16_t chunk);
+
+/* Closes an association and forgets all of it. Refuses: 6, 7 if it is not open. */
+uint8_t ntp5_close(uint8_t *table, size_t table_len, uint8_t association);
+
+/*
+ * Writes the next request to `out`: 84 octets and the chunk size. It becomes the outstanding request, and an older one is
+ * dropped: its answer will be refused with 9. `client_cookie` is one never used before, `poll` the poll exponent that is
+ * sent, `interleaved` whether an interleaved answer is wanted.
+ * Refuses: 6, 7 if not open, 8 for cookie 0 or that of the last request, 11.
+ */
+ntp5_written ntp5_poll(uint8_t *table, size_t table_len, uint8_t association, uint64_t client_cookie, int8_t poll,
+                       bool interleaved, uint8_t *out, size_t out_len);
+
+/*
+ * Reports T1, the time at which the outstanding request left, once and before its answer is received.
+ * Refuses: 6 (also T1 of 0), 7 if not open, if nothing is outstanding or if T1 was reported already.
+ */
+uint8_t ntp5_sent(uint8_t *table, size_t table_len, uint8_t association, uint64_t t1);
+
+/*
+ * Takes a datagram that came from the association's server at T4. `datagram` is only read. If it is accepted, the request is
+ * used up, so that a second copy is refused with 9; the filter chunk is taken, whatever the judgement, and the exchange
+ * is measured if it is usable.
+ * Refuses: 6 (also T4 of 0), 7 if not open, 1 to 5, 9 if it does not answer the outstanding request, 10.
+ */
+ntp5_received ntp5_receive(uint8_t *table, size_t table_len, uint8_t association, const uint8_t *datagram,
+                           size_t datagram_len, uint64_t t4);
+
+/*
+ * Whether the association's server follows, itself or through others, the controller with this ID of 15 octets: ask it with
+ * the own ID. A filter can say loop for an ID that was never added, but never clear for one that was. Only reads.
+ * Refuses: 6 (also an ID of another size), 7 if not open.
+ */
+ntp5_verdict ntp5_loop_verdict(const uint8_t *table, size_t table_len, uint8_t association, const uint8_t *id,
+                               size_t id_len);
+
+/*
+ * Writes the filter that this controller serves to its own clients, 512 octets: the union of the filters of the associations
+ * whose bit 2^association is set in `selected` (those that the clock follows) and the own ID. With nothing selected it is the
+ * own ID alone. Only `out` changes; the answer's length is 512.
+ * Refuses: 6 (also an ID of another size), 7 if a selected one is not open or its filter is not complete, 11.
+ */
+ntp5_written ntp5_publish(const uint8_t *table, size_t table_len, uint16_t selected, const uint8_t *id, size_t id_len,
+                          uint8_t *out, size_t out_len);
+
+/*
+ * THE RESPONDER
+ *
+ * A store keeps the transmit times of past answers for interleaved mode: 1 to 64 records of 16 octets. The caller owns it,
+ * clears it before anything else, and then leaves its octets to these calls. Every call refuses with 6 a store of another
+ * size and, but for clearing, one with a gap, a used cookie 0 or a cookie held twice.
+ */
+
+/* Empties the store. Refuses: 6. */
+uint8_t ntp5_store_clear(uint8_t *store, size_t store_len);
+
+/*
+ * Reports the time at which the answer that carried this server cookie left. It is sent in one later interleaved answer.
+ * Refuses: 6 (also a time of 0), 12 if the cookie is not in the store (it may have left a full one) or has its time.
+ */
+uint8_t ntp5_report(uint8_t *store, size_t store_len, uint64_t server_cookie, uint64_t time);
+
+/*
+ * Writes the answer to a request to `out`: as many octets as the request has. Only `store` and `out` change.
+ *   receive_time    when the request came
+ *   estimate        when the answer will leave, as well as that is known
+ *   fresh_cookie    a server cookie never used before; looked at only if the request wants an interleaved answer, and
+ *                   then the answer carries it and ntp5_report is called with it once the answer has left
+ *   leap to root_dispersion   what the server says of its clock; flag 0x2 is set by the call and not taken from `flags`
+ *   filter          what ntp5_publish wrote, 512 octets
+ *   information     the four octets of the server information field: the range of versions and reserved ones
+ * An answer is interleaved if the request wants that and its server cookie is in the store with a reported time; that record
+ * then leaves the store, so that a saved time is sent once only.
+ * Refuses: 6 (also a leap above 3, a filter or information of another size, a time of 0), 1 to 5, 8 if a fresh cookie is needed
+ * and is 0 or in the store, 11.
+ */
+ntp5_written ntp5_answer(uint8_t *store, size_t store_len, const uint8_t *request, size_t request_len,
+                         uint64_t receive_time, uint64_t estimate, uint64_t fresh_cookie, uint8_t leap, uint8_t stratum,
+                         int8_t poll, int8_t precision, uint8_t timescale, uint8_t era, uint16_t flags,
+                         uint32_t root_delay, uint32_t root_dispersion, const uint8_t *filter, size_t filter_len,
+                         const uint8_t *information, size_t information_len, uint8_t *out, size_t out_len);
+
+/*
+ * SINGLE DATAGRAMS
+ */
+
+/* Reads the header of a datagram; the fields after it are not looked at. In a refusal all is 0. Refuses: 1, 2, 3. */
+ntp5_read ntp5_header_read(const uint8_t *datagram, size_t datagram_len, uint8_t wanted_mode);
+
+/* Writes a header to the first 48 octets of `out`. Refuses: 6 for a leap above 3 or a mode other than 3 and 4, 11. */
+uint8_t ntp5_header_write(ntp5_header header, uint8_t *out, size_t out_len);
+
+/* Whether a datagram's header and fields are sound. Only reads. Refuses: 1 to 5. */
+uint8_t ntp5_sound(const uint8_t *datagram, size_t datagram_len, uint8_t wanted_mode);
+
+/*
+ * FILTERS
+ *
+ * 512 octets that the caller owns; a fresh one is zeros. Each call refuses with 6 a filter or an ID of another size, and
+ * has no other refusal.
+ */
+
+/* Adds an ID of 15 octets. Only `filter` changes. */
+uint8_t ntp5_filter_add(uint8_t *filter, size_t filter_len, const uint8_t *id, size_t id_len);
+
+/* Adds to `into` what is set in `other`. */
+uint8_t ntp5_filter_union(uint8_t *into, size_t into_len, const uint8_t *other, size_t other_len);
+
+ntp5_weight ntp5_filter_weight(const uint8_t *filter, size_t filter_len);
+
+/*
+ * MEASUREMENT
+ *
+ * T1: the request left the client, T2: it came to the server, T3: the answer left the server, T4: it came to the client. The
+ * four differences are the right ones across an era's end, as long as the clocks are less than 2^31 s (68 years) apart.
+ * Any numbers are taken, and nothing is refused.
+ */
+
+/* ((T2 - T1) + (T3 - T4)) / 2, rounded toward minus infinity: by how much the server's clock is ahead. */
+int64_t ntp5_offset(uint64_t t1, uint64_t t2, uint64_t t3, uint64_t t4);
+
+/* The size of (T4 - T1) - (T3 - T2): the time spent on the way. */
+uint64_t ntp5_delay(uint64_t t1, uint64_t t2, uint64_t t3, uint64_t t4);
+
+#ifdef __cplusplus
+}
+#endif
+
+#endif
