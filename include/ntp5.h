@@ -218,7 +218,7 @@ uint8_t ntp5_report(uint8_t *store, size_t store_len, uint64_t server_cookie, ui
  *                   then the answer carries it and ntp5_report is called with it once the answer has left
  *   leap to root_dispersion   what the server says of its clock; flag 0x2 is set by the call and not taken from `flags`
  *   filter          what ntp5_publish wrote, 512 octets
- *   information     the four octets of the server information field: the range of versions and reserved ones
+ *   information     the data of the server information field, 4 octets: version 5 alone is 00 10 00 00
  * An answer is interleaved if the request wants that and its server cookie is in the store with a reported time; that record
  * then leaves the store, so that a saved time is sent once only.
  * Refuses: 6 (also a leap above 3, a filter or information of another size, a time of 0), 1 to 5, 8 if a fresh cookie is needed
