@@ -137,7 +137,7 @@ typedef struct {
  * are out of range, which can come about only if something else wrote there; clearing checks the size alone.
  */
 
-/* The size of a table. It does not change while the library is linked. */
+/* The size of a table, the same at every call. */
 size_t ntp5_table_octets(void);
 
 /* Closes all sixteen associations. Refuses: 6. */
