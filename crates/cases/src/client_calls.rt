@@ -1,8 +1,6 @@
 // The client's calls that change its table, the one table of the case file.
 use crate::words::mode_at;
-use print::convert::from_i64;
-use print::convert::from_u8;
-use print::convert::from_u16;
+use queries::answers;
 use text::line::i8_at;
 use text::line::u8_at;
 use text::line::u16_at;
@@ -30,10 +28,7 @@ fn poll_into(row: &[u8], line: &[u8], output: &mut [u8], table: &mut [u8]) {
         mode_at(line, 4),
         output,
     );
-    match polled {
-        client::Polled::Refused(number) => print::result(row, number, row),
-        client::Polled::Written(length) => print::line(row, &[0, from_u16(length), 0], output),
-    }
+    answers::polled(row, polled, output);
 }
 
 pub(crate) fn poll(row: &[u8], line: &[u8], table: &mut [u8]) {
@@ -46,18 +41,5 @@ pub(crate) fn poll(row: &[u8], line: &[u8], table: &mut [u8]) {
 // receive A T4 OCTETS
 pub(crate) fn receive(row: &[u8], line: &[u8], datagram: &[u8], table: &mut [u8]) {
     let received = client::receive(table, u8_at(line, 1), datagram, u64_at(line, 2));
-    match received {
-        client::Received::Refused(number) => print::result(row, number, datagram),
-        client::Received::Accepted(m) => print::line(
-            row,
-            &[
-                0,
-                from_u8(m.judgement),
-                from_u8(m.chunk),
-                from_i64(m.offset),
-                m.delay,
-            ],
-            datagram,
-        ),
-    }
+    answers::received(row, received, datagram);
 }

@@ -29,7 +29,7 @@ pub(crate) struct Fault {
     pub(crate) problem: u8,
 }
 
-// Octets are laid nowhere: no buffer has a place for them.
+// The octets go to no buffer: only what is wrong with them is asked.
 fn octets_problem(word: &[u8]) -> u8 {
     let laid = lay(word, &mut []);
     laid.problem
