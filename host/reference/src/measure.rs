@@ -1,0 +1,40 @@
+//! Offset and delay of an exchange, in units of 2^-32 s.
+
+/// The four timestamps of one measurement.
+#[derive(Clone, Copy, Debug, PartialEq, Eq)]
+pub struct Times {
+    /// The client sent the request.
+    pub t1: u64,
+    /// The server received it.
+    pub t2: u64,
+    /// The server sent the response.
+    pub t3: u64,
+    /// The client received it.
+    pub t4: u64,
+}
+
+/// `a - b` modulo 2^64, read as a number from -2^63 to 2^63 - 1.
+fn difference(a: u64, b: u64) -> i128 {
+    i128::from(a.wrapping_sub(b) as i64)
+}
+
+impl Times {
+    /// Half of (T2-T1) + (T3-T4), rounded toward minus infinity.
+    pub fn offset(&self) -> i64 {
+        let sum = difference(self.t2, self.t1) + difference(self.t3, self.t4);
+        // The shift rounds toward minus infinity, and the half of two 64-bit numbers fits 64 bits.
+        (sum >> 1) as i64
+    }
+
+    /// The size of (T4-T1) - (T3-T2).
+    pub fn delay(&self) -> u64 {
+        let rest = difference(self.t4, self.t1) - difference(self.t3, self.t2);
+        // Two 64-bit numbers are less than 2^64 apart.
+        rest.unsigned_abs() as u64
+    }
+
+    /// Whether none of the four is unknown.
+    pub fn known(&self) -> bool {
+        self.t1 != 0 && self.t2 != 0 && self.t3 != 0 && self.t4 != 0
+    }
+}
