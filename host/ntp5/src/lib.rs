@@ -1,1 +1,26 @@
+//! A safe wrapper of `libntp5.a`, an NTPv5 library with a C interface.
+//!
+//! The library keeps nothing between calls: a client's [`Table`] and a
+//! responder's [`Store`] lie in octets that the caller owns. A call that is
+//! refused changes nothing and gives a [`Refusal`].
+//!
+//! The caller draws all cookies at random and never uses one twice: the library
+//! refuses only the repeats that it can see.
+#![deny(unsafe_code)]
+#![warn(missing_docs)]
 
+pub mod ffi;
+
+mod client;
+mod filter;
+mod header;
+mod measure;
+mod refusal;
+mod responder;
+
+pub use client::{Chunk, Measured, Mode, Received, Table, Unusable, Verdict};
+pub use filter::{Filter, ReferenceId};
+pub use header::{sound, ClientCookie, Header, ServerCookie, INTERLEAVED, REQUEST, RESPONSE};
+pub use measure::Times;
+pub use refusal::Refusal;
+pub use responder::{Occasion, Server, Store};

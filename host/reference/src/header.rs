@@ -58,7 +58,7 @@ pub struct Header {
 
 /// The header's octets of a datagram that refusals 1, 2 and 3 let pass.
 pub fn checked(datagram: &[u8], wanted_mode: u8) -> Result<&[u8; OCTETS], Refusal> {
-    if datagram.len() > DATAGRAM_MAX || datagram.len() % 4 != 0 {
+    if datagram.len() > DATAGRAM_MAX || !datagram.len().is_multiple_of(4) {
         return Err(Refusal::DatagramLength);
     }
     let octets = datagram.first_chunk().ok_or(Refusal::DatagramLength)?;

@@ -79,7 +79,7 @@ impl Server<'_> {
                 let n = field.data.len();
                 let offset = usize::from(u16::from_be_bytes(*field.data.first_chunk()?));
                 let part = self.filter.get(offset..offset + n)?;
-                (n >= 4 && n % 4 == 0).then_some((chain::FILTER_RESPONSE, part))
+                (n >= 4 && n.is_multiple_of(4)).then_some((chain::FILTER_RESPONSE, part))
             }
             chain::SERVER_INFORMATION => {
                 (field.data.len() == 4).then_some((field.kind, self.information))

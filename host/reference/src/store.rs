@@ -112,7 +112,7 @@ impl Store {
 /// The number of records in lent octets (refusal 6).
 pub fn records(octets: &[u8]) -> Result<usize, Refusal> {
     let records = octets.len() / RECORD_OCTETS;
-    if octets.len() % RECORD_OCTETS != 0 || !(1..=RECORDS_MAX).contains(&records) {
+    if !octets.len().is_multiple_of(RECORD_OCTETS) || !(1..=RECORDS_MAX).contains(&records) {
         return Err(Refusal::Argument);
     }
     Ok(records)

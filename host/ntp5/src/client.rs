@@ -1,0 +1,187 @@
+//! The client: sixteen associations in one table.
+#![forbid(unsafe_code)]
+
+use crate::ffi::calls;
+use crate::{ClientCookie, Filter, ReferenceId, Refusal};
+
+/// What a poll asks for.
+#[derive(Clone, Copy, Debug, PartialEq, Eq, Hash)]
+pub enum Mode {
+    /// All four timestamps from one exchange.
+    Basic,
+    /// The transmit timestamp of the exchange before, as measured by the server.
+    Interleaved,
+}
+
+/// A measurement, in units of 2^-32 s.
+#[derive(Clone, Copy, Debug, PartialEq, Eq, Hash)]
+pub struct Measured {
+    /// How far the server's clock is ahead.
+    pub offset: i64,
+    /// The time that the datagrams were on their way.
+    pub delay: u64,
+}
+
+/// Why an accepted response is of no use for the clock.
+#[derive(Clone, Copy, Debug, PartialEq, Eq, Hash)]
+#[repr(u8)]
+pub enum Unusable {
+    /// Its leap is 3.
+    Leap = 1,
+    /// Its stratum is not 1 to 15.
+    Stratum = 2,
+    /// Its timescale, or that of the exchange measured, is not the association's.
+    Timescale = 3,
+    /// A timestamp that the measurement needs is unknown.
+    Timestamp = 4,
+}
+
+/// What became of a response's filter chunk.
+#[derive(Clone, Copy, Debug, PartialEq, Eq, Hash)]
+#[repr(u8)]
+pub enum Chunk {
+    /// It stands in the association's filter.
+    Taken = 1,
+    /// The response had none.
+    Absent = 2,
+    /// It had another size than was asked.
+    AnotherSize = 3,
+}
+
+/// An accepted response.
+#[derive(Clone, Copy, Debug, PartialEq, Eq, Hash)]
+pub struct Received {
+    /// The measurement, or why there is none.
+    pub measured: Result<Measured, Unusable>,
+    /// What became of the filter chunk.
+    pub chunk: Chunk,
+}
+
+/// Whether a server follows a reference ID.
+#[derive(Clone, Copy, Debug, PartialEq, Eq, Hash)]
+#[repr(u8)]
+pub enum Verdict {
+    /// Its filter was not yet received whole.
+    Incomplete = 1,
+    /// All ten positions of the ID are set.
+    Loop = 2,
+    /// One of them is not.
+    Clear = 3,
+}
+
+/// A client's table in octets that `B` owns or borrows. Associations are 0 to 15;
+/// any other is refused with 6, as are octets that are no table.
+#[derive(Clone, Debug, PartialEq, Eq)]
+pub struct Table<B>(B);
+
+impl Table<Vec<u8>> {
+    /// A table of its own, all associations closed.
+    pub fn new() -> Self {
+        Table(vec![0; calls::table_octets()])
+    }
+}
+
+impl Default for Table<Vec<u8>> {
+    fn default() -> Self {
+        Self::new()
+    }
+}
+
+impl<B: AsRef<[u8]> + AsMut<[u8]>> Table<B> {
+    /// A table in any octets, as they are.
+    pub fn lent(octets: B) -> Self {
+        Table(octets)
+    }
+
+    /// Gives the octets back.
+    pub fn into_inner(self) -> B {
+        self.0
+    }
+
+    /// Closes all associations (refusal 6).
+    pub fn clear(&mut self) -> Result<(), Refusal> {
+        Refusal::check(calls::clear(self.0.as_mut()))
+    }
+
+    /// Opens an association (refusals 6, 7). `chunk` is 16, 32, 64, 128, 256 or 512.
+    pub fn open(&mut self, association: u8, timescale: u8, chunk: u16) -> Result<(), Refusal> {
+        Refusal::check(calls::open(self.0.as_mut(), association, timescale, chunk))
+    }
+
+    /// Closes an association (refusals 6, 7).
+    pub fn close(&mut self, association: u8) -> Result<(), Refusal> {
+        Refusal::check(calls::close(self.0.as_mut(), association))
+    }
+
+    /// Writes a request, which becomes the outstanding one (refusals 6, 7, 8, 11);
+    /// gives the datagram's length.
+    pub fn poll(
+        &mut self,
+        association: u8,
+        cookie: ClientCookie,
+        exponent: i8,
+        mode: Mode,
+        out: &mut [u8],
+    ) -> Result<usize, Refusal> {
+        let interleaved = mode == Mode::Interleaved;
+        let table = self.0.as_mut();
+        let written = calls::poll(table, association, cookie.0, exponent, interleaved, out);
+        Refusal::check(written.refusal)?;
+        Ok(written.length.into())
+    }
+
+    /// Reports when the outstanding request was sent (refusals 6, 7).
+    pub fn sent(&mut self, association: u8, t1: u64) -> Result<(), Refusal> {
+        Refusal::check(calls::sent(self.0.as_mut(), association, t1))
+    }
+
+    /// Takes a datagram that came at T4 (refusals 6, 7, 1 to 5, 9, 10).
+    pub fn receive(
+        &mut self,
+        association: u8,
+        datagram: &[u8],
+        t4: u64,
+    ) -> Result<Received, Refusal> {
+        let told = calls::receive(self.0.as_mut(), association, datagram, t4);
+        Refusal::check(told.refusal)?;
+        let measured = match told.judgement {
+            0 => Ok(Measured {
+                offset: told.offset,
+                delay: told.delay,
+            }),
+            1 => Err(Unusable::Leap),
+            2 => Err(Unusable::Stratum),
+            3 => Err(Unusable::Timescale),
+            4 => Err(Unusable::Timestamp),
+            other => unreachable!("judgement {other}"),
+        };
+        let chunk = match told.chunk {
+            1 => Chunk::Taken,
+            2 => Chunk::Absent,
+            3 => Chunk::AnotherSize,
+            other => unreachable!("chunk outcome {other}"),
+        };
+        Ok(Received { measured, chunk })
+    }
+
+    /// Whether the association's server follows the ID (refusals 6, 7).
+    pub fn loop_verdict(&self, association: u8, id: &ReferenceId) -> Result<Verdict, Refusal> {
+        let told = calls::loop_verdict(self.0.as_ref(), association, &id.0);
+        Refusal::check(told.refusal)?;
+        Ok(match told.verdict {
+            1 => Verdict::Incomplete,
+            2 => Verdict::Loop,
+            3 => Verdict::Clear,
+            other => unreachable!("verdict {other}"),
+        })
+    }
+
+    /// The union of the filters of the associations selected by bit, with the own ID
+    /// added (refusals 6, 7).
+    pub fn publish(&self, selected: u16, id: &ReferenceId) -> Result<Filter, Refusal> {
+        let mut filter = Filter::FRESH;
+        let written = calls::publish(self.0.as_ref(), selected, &id.0, &mut filter.0);
+        Refusal::check(written.refusal)?;
+        Ok(filter)
+    }
+}

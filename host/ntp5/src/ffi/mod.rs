@@ -1,0 +1,114 @@
+//! The C interface as `include/ntp5.h` declares it, and in [`calls`] a safe function
+//! for each call. This is the only module with unsafe code.
+#![allow(unsafe_code)]
+
+pub mod calls;
+
+/// `ntp5_written`: how many octets were written.
+#[repr(C)]
+#[derive(Clone, Copy, Debug, PartialEq, Eq)]
+pub struct Written {
+    /// 0, or the refusal number.
+    pub refusal: u8,
+    /// Octets written.
+    pub length: u16,
+}
+
+/// `ntp5_received`: what a response told.
+#[repr(C)]
+#[derive(Clone, Copy, Debug, PartialEq, Eq)]
+pub struct Received {
+    /// 0, or the refusal number.
+    pub refusal: u8,
+    /// 0 usable, or why it is not.
+    pub judgement: u8,
+    /// 1 taken, 2 absent, 3 another size.
+    pub chunk: u8,
+    /// Offset in 2^-32 s.
+    pub offset: i64,
+    /// Delay in 2^-32 s.
+    pub delay: u64,
+}
+
+/// `ntp5_verdict`: whether there is a loop.
+#[repr(C)]
+#[derive(Clone, Copy, Debug, PartialEq, Eq)]
+pub struct Verdict {
+    /// 0, or the refusal number.
+    pub refusal: u8,
+    /// 1 incomplete, 2 loop, 3 clear.
+    pub verdict: u8,
+}
+
+/// `ntp5_weight`: the number of bits set.
+#[repr(C)]
+#[derive(Clone, Copy, Debug, PartialEq, Eq)]
+pub struct Weight {
+    /// 0, or the refusal number.
+    pub refusal: u8,
+    /// Bits set.
+    pub weight: u16,
+}
+
+/// `ntp5_header`: the fields of a header.
+#[repr(C)]
+#[derive(Clone, Copy, Debug, PartialEq, Eq)]
+#[allow(missing_docs)]
+pub struct Header {
+    pub leap: u8,
+    pub mode: u8,
+    pub stratum: u8,
+    pub poll: i8,
+    pub precision: i8,
+    pub timescale: u8,
+    pub era: u8,
+    pub flags: u16,
+    pub root_delay: u32,
+    pub root_dispersion: u32,
+    pub server_cookie: u64,
+    pub client_cookie: u64,
+    pub receive: u64,
+    pub transmit: u64,
+}
+
+/// `ntp5_read`: a header that was read.
+#[repr(C)]
+#[derive(Clone, Copy, Debug, PartialEq, Eq)]
+pub struct Read {
+    /// 0, or the refusal number.
+    pub refusal: u8,
+    /// The fields.
+    pub header: Header,
+}
+
+#[rustfmt::skip]
+extern "C" {
+    fn ntp5_table_octets() -> usize;
+    fn ntp5_clear(table: *mut u8, table_len: usize) -> u8;
+    fn ntp5_open(table: *mut u8, table_len: usize, association: u8, timescale: u8, chunk: u16) -> u8;
+    fn ntp5_close(table: *mut u8, table_len: usize, association: u8) -> u8;
+    fn ntp5_poll(table: *mut u8, table_len: usize, association: u8, client_cookie: u64, poll: i8,
+        interleaved: bool, out: *mut u8, out_len: usize) -> Written;
+    fn ntp5_sent(table: *mut u8, table_len: usize, association: u8, t1: u64) -> u8;
+    fn ntp5_receive(table: *mut u8, table_len: usize, association: u8, datagram: *const u8,
+        datagram_len: usize, t4: u64) -> Received;
+    fn ntp5_loop_verdict(table: *const u8, table_len: usize, association: u8, id: *const u8,
+        id_len: usize) -> Verdict;
+    fn ntp5_publish(table: *const u8, table_len: usize, selected: u16, id: *const u8, id_len: usize,
+        out: *mut u8, out_len: usize) -> Written;
+    fn ntp5_store_clear(store: *mut u8, store_len: usize) -> u8;
+    fn ntp5_report(store: *mut u8, store_len: usize, server_cookie: u64, time: u64) -> u8;
+    fn ntp5_answer(store: *mut u8, store_len: usize, request: *const u8, request_len: usize,
+        receive_time: u64, estimate: u64, fresh_cookie: u64, leap: u8, stratum: u8, poll: i8,
+        precision: i8, timescale: u8, era: u8, flags: u16, root_delay: u32, root_dispersion: u32,
+        filter: *const u8, filter_len: usize, information: *const u8, information_len: usize,
+        out: *mut u8, out_len: usize) -> Written;
+    fn ntp5_header_read(datagram: *const u8, datagram_len: usize, wanted_mode: u8) -> Read;
+    fn ntp5_header_write(header: Header, out: *mut u8, out_len: usize) -> u8;
+    fn ntp5_sound(datagram: *const u8, datagram_len: usize, wanted_mode: u8) -> u8;
+    fn ntp5_filter_add(filter: *mut u8, filter_len: usize, id: *const u8, id_len: usize) -> u8;
+    fn ntp5_filter_union(into: *mut u8, into_len: usize, other: *const u8, other_len: usize) -> u8;
+    fn ntp5_filter_weight(filter: *const u8, filter_len: usize) -> Weight;
+    fn ntp5_offset(t1: u64, t2: u64, t3: u64, t4: u64) -> i64;
+    fn ntp5_delay(t1: u64, t2: u64, t3: u64, t4: u64) -> u64;
+}

@@ -1,0 +1,192 @@
+//! The wrapper's calls, each at least once: a client and a responder together.
+#![forbid(unsafe_code)]
+
+use ntp5::*;
+
+const ID: ReferenceId = ReferenceId([7; 15]);
+
+fn server(filter: &Filter) -> Server<'_> {
+    Server {
+        leap: 0,
+        stratum: 2,
+        poll: 6,
+        precision: -20,
+        timescale: 1,
+        era: 0,
+        flags: 0x8001,
+        root_delay: 5,
+        root_dispersion: 6,
+        filter: &filter.0,
+        information: &[1, 2, 3, 4],
+    }
+}
+
+/// Polls, answers and receives once; the response comes 30 after `at`.
+fn exchange(
+    table: &mut Table<Vec<u8>>,
+    store: &mut Store<Vec<u8>>,
+    filter: &Filter,
+    mode: Mode,
+    at: u64,
+) -> Result<Received, Refusal> {
+    let (mut request, mut response) = ([0; 600], [0; 600]);
+    let length = table.poll(3, ClientCookie(at), 6, mode, &mut request)?;
+    table.sent(3, at)?;
+    let occasion = Occasion {
+        receive: at + 11,
+        estimate: at + 12,
+        fresh: ServerCookie(at),
+    };
+    let request = &request[..length];
+    let length = store.answer(request, &occasion, &server(filter), &mut response)?;
+    if mode == Mode::Interleaved {
+        store.report(ServerCookie(at), at + 15)?;
+    }
+    table.receive(3, &response[..length], at + 30)
+}
+
+#[test]
+fn client_and_responder() -> Result<(), Refusal> {
+    let mut filter = Filter::default();
+    filter.add(&ID);
+    let (mut table, mut store) = (Table::new(), Store::new(2));
+    table.clear()?;
+    store.clear()?;
+    table.open(3, 1, 256)?;
+    assert_eq!(table.loop_verdict(3, &ID), Ok(Verdict::Incomplete));
+    let usable = |offset, delay| Received {
+        measured: Ok(Measured { offset, delay }),
+        chunk: Chunk::Taken,
+    };
+    let first = exchange(&mut table, &mut store, &filter, Mode::Interleaved, 1000)?;
+    assert_eq!(first, usable((11 - 18_i64).div_euclid(2), 29));
+    assert_eq!(table.publish(1 << 3, &ID), Err(Refusal::State));
+    let second = exchange(&mut table, &mut store, &filter, Mode::Interleaved, 2000)?;
+    assert_eq!(
+        second,
+        usable((11 - 15_i64).div_euclid(2), 26),
+        "the reported time was sent"
+    );
+    assert_eq!(table.loop_verdict(3, &ID), Ok(Verdict::Loop));
+    assert_eq!(
+        table.loop_verdict(3, &ReferenceId([9; 15])),
+        Ok(Verdict::Clear)
+    );
+    assert_eq!(table.publish(1 << 3, &ID), Ok(filter));
+    table.close(3)?;
+    assert_eq!(table.close(3), Err(Refusal::State));
+    assert!(table.into_inner().iter().all(|&octet| octet == 0));
+    Ok(())
+}
+
+#[test]
+fn unusable_responses() -> Result<(), Refusal> {
+    let header = Header {
+        mode: RESPONSE,
+        stratum: 1,
+        receive: 5,
+        transmit: 6,
+        ..Header::default()
+    };
+    for (header, why) in [
+        (Header { leap: 3, ..header }, Unusable::Leap),
+        (
+            Header {
+                stratum: 16,
+                ..header
+            },
+            Unusable::Stratum,
+        ),
+        (
+            Header {
+                timescale: 9,
+                ..header
+            },
+            Unusable::Timescale,
+        ),
+        (
+            Header {
+                transmit: 0,
+                ..header
+            },
+            Unusable::Timestamp,
+        ),
+    ] {
+        let (mut table, mut out) = (Table::new(), [0; 100]);
+        table.open(0, 0, 16)?;
+        table.poll(0, ClientCookie(1), 6, Mode::Basic, &mut out)?;
+        table.sent(0, 4)?;
+        Header {
+            client_cookie: ClientCookie(1),
+            ..header
+        }
+        .write(&mut out)?;
+        let received = Received {
+            measured: Err(why),
+            chunk: Chunk::Absent,
+        };
+        assert_eq!(table.receive(0, &out[..48], 7), Ok(received));
+    }
+    Ok(())
+}
+
+#[test]
+fn headers() {
+    let header = Header {
+        leap: 1,
+        mode: REQUEST,
+        stratum: 3,
+        poll: -4,
+        precision: -5,
+        timescale: 6,
+        era: 7,
+        flags: INTERLEAVED | 0x100,
+        root_delay: 8,
+        root_dispersion: 9,
+        server_cookie: ServerCookie(10),
+        client_cookie: ClientCookie(11),
+        receive: 12,
+        transmit: 13,
+    };
+    let mut out = [0; 48];
+    assert_eq!(header.write(&mut out), Ok(()));
+    assert_eq!(Header::read(&out, REQUEST), Ok(header));
+    assert_eq!(Header::read(&out, RESPONSE), Err(Refusal::Mode));
+    assert_eq!(sound(&out, REQUEST), Ok(()));
+    assert_eq!(sound(&out[..47], REQUEST), Err(Refusal::DatagramLength));
+    assert_eq!(header.write(&mut out[..47]), Err(Refusal::Room));
+}
+
+#[test]
+fn filters_and_times() {
+    let mut filter = Filter::FRESH;
+    filter.add(&ReferenceId([0; 15]));
+    let mut other = Filter::FRESH;
+    other.add(&ReferenceId([0xFF; 15]));
+    filter.unite(&other);
+    assert_eq!(
+        (filter.0[0], filter.0[511], filter.weight()),
+        (0x01, 0x80, 2)
+    );
+    let times = Times {
+        t1: 10,
+        t2: 10,
+        t3: 10,
+        t4: 11,
+    };
+    assert_eq!((times.offset(), times.delay()), (-1, 1));
+}
+
+#[test]
+fn refusals_have_their_numbers() {
+    for (place, refusal) in Refusal::ALL.into_iter().enumerate() {
+        assert_eq!(usize::from(refusal.number()), place + 1);
+    }
+    let mut odd = [0; 17];
+    assert_eq!(Store::lent(&mut odd).clear(), Err(Refusal::Argument));
+    assert_eq!(Table::lent(&mut odd).clear(), Err(Refusal::Argument));
+    assert_eq!(
+        Store::new(65).report(ServerCookie(1), 1),
+        Err(Refusal::Argument)
+    );
+}
