@@ -1,1 +1,20 @@
+//! The library compared with the reference, call by call and octet by octet.
+//!
+//! [`call::Call`] is a call with its arguments. It is made on three sides: the
+//! [`library`], the reference's [`plain`] table and store, and the reference on
+//! [`lent`](plain::Lent) octets. [`make`] draws calls at random; [`met`] counts
+//! what they led to; [`line`](mod@line) writes a call as the `cases` program reads it.
+#![forbid(unsafe_code)]
+#![warn(missing_docs)]
 
+pub mod call;
+mod convert;
+pub mod interface;
+pub mod library;
+pub mod line;
+pub mod make;
+pub mod met;
+pub mod plain;
+pub mod random;
+pub mod reorder;
+pub mod trial;

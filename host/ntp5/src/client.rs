@@ -145,10 +145,7 @@ impl<B: AsRef<[u8]> + AsMut<[u8]>> Table<B> {
         let told = calls::receive(self.0.as_mut(), association, datagram, t4);
         Refusal::check(told.refusal)?;
         let measured = match told.judgement {
-            0 => Ok(Measured {
-                offset: told.offset,
-                delay: told.delay,
-            }),
+            0 => Ok(Measured { offset: told.offset, delay: told.delay }),
             1 => Err(Unusable::Leap),
             2 => Err(Unusable::Stratum),
             3 => Err(Unusable::Timescale),

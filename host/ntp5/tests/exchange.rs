@@ -32,11 +32,7 @@ fn exchange(
     let (mut request, mut response) = ([0; 600], [0; 600]);
     let length = table.poll(3, ClientCookie(at), 6, mode, &mut request)?;
     table.sent(3, at)?;
-    let occasion = Occasion {
-        receive: at + 11,
-        estimate: at + 12,
-        fresh: ServerCookie(at),
-    };
+    let occasion = Occasion { receive: at + 11, estimate: at + 12, fresh: ServerCookie(at) };
     let request = &request[..length];
     let length = store.answer(request, &occasion, &server(filter), &mut response)?;
     if mode == Mode::Interleaved {
@@ -54,24 +50,15 @@ fn client_and_responder() -> Result<(), Refusal> {
     store.clear()?;
     table.open(3, 1, 256)?;
     assert_eq!(table.loop_verdict(3, &ID), Ok(Verdict::Incomplete));
-    let usable = |offset, delay| Received {
-        measured: Ok(Measured { offset, delay }),
-        chunk: Chunk::Taken,
-    };
+    let usable =
+        |offset, delay| Received { measured: Ok(Measured { offset, delay }), chunk: Chunk::Taken };
     let first = exchange(&mut table, &mut store, &filter, Mode::Interleaved, 1000)?;
     assert_eq!(first, usable((11 - 18_i64).div_euclid(2), 29));
     assert_eq!(table.publish(1 << 3, &ID), Err(Refusal::State));
     let second = exchange(&mut table, &mut store, &filter, Mode::Interleaved, 2000)?;
-    assert_eq!(
-        second,
-        usable((11 - 15_i64).div_euclid(2), 26),
-        "the reported time was sent"
-    );
+    assert_eq!(second, usable((11 - 15_i64).div_euclid(2), 26), "the reported time was sent");
     assert_eq!(table.loop_verdict(3, &ID), Ok(Verdict::Loop));
-    assert_eq!(
-        table.loop_verdict(3, &ReferenceId([9; 15])),
-        Ok(Verdict::Clear)
-    );
+    assert_eq!(table.loop_verdict(3, &ReferenceId([9; 15])), Ok(Verdict::Clear));
     assert_eq!(table.publish(1 << 3, &ID), Ok(filter));
     table.close(3)?;
     assert_eq!(table.close(3), Err(Refusal::State));
@@ -81,50 +68,20 @@ fn client_and_responder() -> Result<(), Refusal> {
 
 #[test]
 fn unusable_responses() -> Result<(), Refusal> {
-    let header = Header {
-        mode: RESPONSE,
-        stratum: 1,
-        receive: 5,
-        transmit: 6,
-        ..Header::default()
-    };
+    let header =
+        Header { mode: RESPONSE, stratum: 1, receive: 5, transmit: 6, ..Header::default() };
     for (header, why) in [
         (Header { leap: 3, ..header }, Unusable::Leap),
-        (
-            Header {
-                stratum: 16,
-                ..header
-            },
-            Unusable::Stratum,
-        ),
-        (
-            Header {
-                timescale: 9,
-                ..header
-            },
-            Unusable::Timescale,
-        ),
-        (
-            Header {
-                transmit: 0,
-                ..header
-            },
-            Unusable::Timestamp,
-        ),
+        (Header { stratum: 16, ..header }, Unusable::Stratum),
+        (Header { timescale: 9, ..header }, Unusable::Timescale),
+        (Header { transmit: 0, ..header }, Unusable::Timestamp),
     ] {
         let (mut table, mut out) = (Table::new(), [0; 100]);
         table.open(0, 0, 16)?;
         table.poll(0, ClientCookie(1), 6, Mode::Basic, &mut out)?;
         table.sent(0, 4)?;
-        Header {
-            client_cookie: ClientCookie(1),
-            ..header
-        }
-        .write(&mut out)?;
-        let received = Received {
-            measured: Err(why),
-            chunk: Chunk::Absent,
-        };
+        Header { client_cookie: ClientCookie(1), ..header }.write(&mut out)?;
+        let received = Received { measured: Err(why), chunk: Chunk::Absent };
         assert_eq!(table.receive(0, &out[..48], 7), Ok(received));
     }
     Ok(())
@@ -164,16 +121,8 @@ fn filters_and_times() {
     let mut other = Filter::FRESH;
     other.add(&ReferenceId([0xFF; 15]));
     filter.unite(&other);
-    assert_eq!(
-        (filter.0[0], filter.0[511], filter.weight()),
-        (0x01, 0x80, 2)
-    );
-    let times = Times {
-        t1: 10,
-        t2: 10,
-        t3: 10,
-        t4: 11,
-    };
+    assert_eq!((filter.0[0], filter.0[511], filter.weight()), (0x01, 0x80, 2));
+    let times = Times { t1: 10, t2: 10, t3: 10, t4: 11 };
     assert_eq!((times.offset(), times.delay()), (-1, 1));
 }
 
@@ -185,8 +134,5 @@ fn refusals_have_their_numbers() {
     let mut odd = [0; 17];
     assert_eq!(Store::lent(&mut odd).clear(), Err(Refusal::Argument));
     assert_eq!(Table::lent(&mut odd).clear(), Err(Refusal::Argument));
-    assert_eq!(
-        Store::new(65).report(ServerCookie(1), 1),
-        Err(Refusal::Argument)
-    );
+    assert_eq!(Store::new(65).report(ServerCookie(1), 1), Err(Refusal::Argument));
 }

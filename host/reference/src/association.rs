@@ -127,25 +127,14 @@ impl Association {
     pub fn receive(&mut self, datagram: &[u8], t4: u64) -> Result<Received, Refusal> {
         let Response { header, chunk } = Response::read(datagram)?;
         let repeats = |request: &Request| request.client_cookie == header.client_cookie;
-        let request = self
-            .outstanding
-            .filter(repeats)
-            .ok_or(Refusal::NotOutstanding)?;
+        let request = self.outstanding.filter(repeats).ok_or(Refusal::NotOutstanding)?;
         if header.interleaved() && request.server_cookie.0 == 0 {
             return Err(Refusal::NotInterleaved);
         }
-        let basic = Times {
-            t1: request.t1,
-            t2: header.receive,
-            t3: header.transmit,
-            t4,
-        };
+        let basic = Times { t1: request.t1, t2: header.receive, t3: header.transmit, t4 };
         // A request with a server cookie was made from a saved response.
         let previous = self.saved.as_ref().filter(|_| header.interleaved());
-        let times = previous.map_or(basic, |saved| Times {
-            t3: header.transmit,
-            ..saved.times
-        });
+        let times = previous.map_or(basic, |saved| Times { t3: header.transmit, ..saved.times });
         let judgement = judge(&header, self.timescale, previous, &times);
         let usable = judgement == Judgement::Usable;
         self.outstanding = None;

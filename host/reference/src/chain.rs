@@ -38,9 +38,7 @@ pub struct Fields<'a> {
 impl<'a> Fields<'a> {
     /// The fields of a datagram of at least 48 octets; none of a shorter one.
     pub fn of(datagram: &'a [u8]) -> Self {
-        Fields {
-            rest: datagram.get(OCTETS..).unwrap_or_default(),
-        }
+        Fields { rest: datagram.get(OCTETS..).unwrap_or_default() }
     }
 
     /// Takes the first field off a chain that is not empty.

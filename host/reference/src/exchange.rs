@@ -142,11 +142,7 @@ pub(crate) fn write_poll(
         mode: REQUEST,
         poll: exponent,
         timescale,
-        flags: if mode == Mode::Interleaved {
-            INTERLEAVED
-        } else {
-            0
-        },
+        flags: if mode == Mode::Interleaved { INTERLEAVED } else { 0 },
         server_cookie: request.server_cookie,
         client_cookie: request.client_cookie,
         ..Header::default()

@@ -27,9 +27,7 @@ fn records(table: &[u8]) -> Result<&[Octets], Refusal> {
 fn record_mut(table: &mut [u8], association: u8) -> Result<&mut Octets, Refusal> {
     records(table)?;
     let (records, _) = table.as_chunks_mut();
-    records
-        .get_mut(usize::from(association))
-        .ok_or(Refusal::Argument)
+    records.get_mut(usize::from(association)).ok_or(Refusal::Argument)
 }
 
 /// Makes a call on one place of a lent table.
@@ -71,9 +69,7 @@ pub fn poll(
     mode: Mode,
     out: &mut [u8],
 ) -> Result<usize, Refusal> {
-    on_place(table, association, |place| {
-        place.poll(cookie, exponent, mode, out)
-    })
+    on_place(table, association, |place| place.poll(cookie, exponent, mode, out))
 }
 
 /// See [`Place::sent`].

@@ -67,10 +67,7 @@ fn offset(number: u64, c: u16) -> Option<u16> {
 fn saved(head: &Head) -> Option<Option<Saved>> {
     let &[.., timescale, t1, t2, t3, t4, cookie] = head;
     if t4 == 0 {
-        return [timescale, t1, t2, t3, cookie]
-            .iter()
-            .all(|&n| n == 0)
-            .then_some(None);
+        return [timescale, t1, t2, t3, cookie].iter().all(|&n| n == 0).then_some(None);
     }
     Some(Some(Saved {
         timescale: timescale.try_into().ok()?,
@@ -135,12 +132,7 @@ fn numbers(open: &Association) -> Head {
         head[8] = request.offset.into();
         head[9] = request.t1;
     }
-    if let Some(Saved {
-        timescale,
-        times,
-        server_cookie,
-    }) = open.saved
-    {
+    if let Some(Saved { timescale, times, server_cookie }) = open.saved {
         head[10] = timescale.into();
         head[11..15].copy_from_slice(&[times.t1, times.t2, times.t3, times.t4]);
         head[15] = server_cookie.0;

@@ -30,10 +30,7 @@ impl Store {
         if !(1..=RECORDS_MAX).contains(&room) {
             return Err(Refusal::Argument);
         }
-        Ok(Store {
-            row: Vec::with_capacity(room),
-            room,
-        })
+        Ok(Store { row: Vec::with_capacity(room), room })
     }
 
     /// The used records, oldest first.
@@ -84,11 +81,7 @@ impl Store {
             return Err(Refusal::Argument);
         }
         let waiting = |record: &&mut Record| record.cookie == cookie && record.time == 0;
-        let record = self
-            .row
-            .iter_mut()
-            .find(waiting)
-            .ok_or(Refusal::NotStored)?;
+        let record = self.row.iter_mut().find(waiting).ok_or(Refusal::NotStored)?;
         record.time = time;
         Ok(())
     }
@@ -121,8 +114,5 @@ pub fn records(octets: &[u8]) -> Result<usize, Refusal> {
 fn record(octets: &[u8]) -> Record {
     let (cookie, time) = octets.split_at(8);
     let number = |octets: &[u8]| octets.try_into().map_or(0, u64::from_be_bytes);
-    Record {
-        cookie: ServerCookie(number(cookie)),
-        time: number(time),
-    }
+    Record { cookie: ServerCookie(number(cookie)), time: number(time) }
 }

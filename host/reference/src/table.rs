@@ -18,9 +18,7 @@ pub struct Table {
 
 impl Table {
     fn place(&mut self, association: u8) -> Result<&mut Place, Refusal> {
-        self.places
-            .get_mut(usize::from(association))
-            .ok_or(Refusal::Argument)
+        self.places.get_mut(usize::from(association)).ok_or(Refusal::Argument)
     }
 
     /// Closes all.
@@ -75,11 +73,8 @@ impl Table {
     /// gives the octets written.
     pub fn publish(&self, selected: u16, id: &[u8], out: &mut [u8]) -> Result<usize, Refusal> {
         let id = ReferenceId::of(id)?;
-        let chosen = || {
-            (0..PLACES)
-                .filter(move |i| selected >> i & 1 == 1)
-                .map(|i| &self.places[i])
-        };
+        let chosen =
+            || (0..PLACES).filter(move |i| selected >> i & 1 == 1).map(|i| &self.places[i]);
         let complete = |place: &Place| place.0.as_ref().is_some_and(|open| open.taken.complete());
         if !chosen().all(complete) {
             return Err(Refusal::State);

@@ -30,11 +30,7 @@ fn with_field(octets: &[u8]) -> Vec<u8> {
 fn m1_first_octet() {
     let first = |leap, mode| {
         let mut out = [0; 48];
-        let header = Header {
-            leap,
-            mode,
-            ..Header::default()
-        };
+        let header = Header { leap, mode, ..Header::default() };
         header.write(&mut out).map(|()| out[0])
     };
     assert_eq!(first(0, REQUEST), Ok(0x2B));
@@ -51,11 +47,7 @@ fn m2_lengths() {
         (1280, Ok(())),
         (1284, Err(Refusal::DatagramLength)),
     ] {
-        assert_eq!(
-            sound(&request(length), REQUEST),
-            expected,
-            "{length} octets"
-        );
+        assert_eq!(sound(&request(length), REQUEST), expected, "{length} octets");
     }
 }
 
@@ -71,11 +63,9 @@ fn m3_m4_field_lengths() {
 fn m5_m6_m7_positions() {
     let mut third = [0; 15];
     third[..3].copy_from_slice(&[0x00, 0x10, 0x02]);
-    for (id, octet, value, ones) in [
-        ([0; 15], 0, 0x01, 1),
-        ([0xFF; 15], 511, 0x80, 1),
-        (third, 0, 0x07, 3),
-    ] {
+    for (id, octet, value, ones) in
+        [([0; 15], 0, 0x01, 1), ([0xFF; 15], 511, 0x80, 1), (third, 0, 0x07, 3)]
+    {
         let mut filter = [0; 512];
         assert_eq!(add(&mut filter, &id), Ok(()));
         assert_eq!(filter[octet], value);
@@ -87,16 +77,7 @@ fn m5_m6_m7_positions() {
 fn m8_to_m11_measurement() {
     let half = 1 << 63;
     for (times, offset, delay) in [
-        (
-            [
-                0xFFFF_FFFF_0000_0000,
-                0x8000_0000,
-                0x8000_0000,
-                0x1_0000_0000,
-            ],
-            2147483648,
-            8589934592,
-        ),
+        ([0xFFFF_FFFF_0000_0000, 0x8000_0000, 0x8000_0000, 0x1_0000_0000], 2147483648, 8589934592),
         ([10, 10, 10, 11], -1, 1),
         ([1, half + 1, half + 1, 1], i64::MIN, 0),
         ([1, half, half, 1], i64::MAX, 0),
@@ -125,11 +106,7 @@ fn m12_filter_requests() {
         filter: &filter,
         information: &[0; 4],
     };
-    let occasion = Occasion {
-        receive: 1,
-        estimate: 2,
-        fresh: ServerCookie(3),
-    };
+    let occasion = Occasion { receive: 1, estimate: 2, fresh: ServerCookie(3) };
     let fields = |request: &[u8]| {
         let mut out = vec![0xAA; request.len()];
         let mut store = Store::new(1).expect("one record");
@@ -138,10 +115,7 @@ fn m12_filter_requests() {
         out.split_off(48)
     };
     let good = with_field(&[0xF5, 0x03, 0, 8, 1, 0xFC, 0, 0]);
-    assert_eq!(
-        fields(&good),
-        [&[0xF5, 0x04, 0, 8], &filter[508..]].concat()
-    );
+    assert_eq!(fields(&good), [&[0xF5, 0x04, 0, 8], &filter[508..]].concat());
     let past = with_field(&[0xF5, 0x03, 0, 12, 1, 0xFC, 0, 0, 0, 0, 0, 0]);
     assert_eq!(fields(&past), [0xF5, 0x01, 0, 12, 0, 0, 0, 0, 0, 0, 0, 0]);
 }

@@ -39,18 +39,7 @@ pub fn poll(
 ) -> Written {
     let (octets, len) = (table.as_mut_ptr(), table.len());
     let (room, room_len) = (out.as_mut_ptr(), out.len());
-    unsafe {
-        ntp5_poll(
-            octets,
-            len,
-            association,
-            client_cookie,
-            poll,
-            interleaved,
-            room,
-            room_len,
-        )
-    }
+    unsafe { ntp5_poll(octets, len, association, client_cookie, poll, interleaved, room, room_len) }
 }
 
 /// Reports the outstanding request's T1.
@@ -61,16 +50,7 @@ pub fn sent(table: &mut [u8], association: u8, t1: u64) -> u8 {
 /// Takes a datagram that came at T4.
 pub fn receive(table: &mut [u8], association: u8, datagram: &[u8], t4: u64) -> Received {
     let (octets, len) = (table.as_mut_ptr(), table.len());
-    unsafe {
-        ntp5_receive(
-            octets,
-            len,
-            association,
-            datagram.as_ptr(),
-            datagram.len(),
-            t4,
-        )
-    }
+    unsafe { ntp5_receive(octets, len, association, datagram.as_ptr(), datagram.len(), t4) }
 }
 
 /// Whether an association's filter shows an ID.

@@ -1,0 +1,210 @@
+//! The library's side: the C interface, every buffer between canaries.
+
+use crate::call::{Answering, Call, Returned, Side, Told};
+use ntp5::ffi::calls;
+use ntp5::{Occasion, Server, ServerCookie};
+
+/// Octets before and after each lent part.
+const GUARD: usize = 32;
+
+/// Octets lent as a part of a larger buffer. Nothing but the part may change.
+#[derive(Clone, Debug)]
+struct Guarded {
+    whole: Vec<u8>,
+    from: usize,
+    to: usize,
+}
+
+impl Guarded {
+    /// `octets` between canaries; `shift` moves the part off its alignment.
+    fn new(octets: &[u8], shift: usize) -> Self {
+        let (from, to) = (GUARD + shift, GUARD + shift + octets.len());
+        let mut whole: Vec<u8> = (0..to + GUARD).map(canary).collect();
+        whole[from..to].copy_from_slice(octets);
+        Guarded { whole, from, to }
+    }
+
+    fn part(&self) -> &[u8] {
+        &self.whole[self.from..self.to]
+    }
+
+    fn part_mut(&mut self) -> &mut [u8] {
+        &mut self.whole[self.from..self.to]
+    }
+
+    /// The first octet outside the part that changed.
+    fn stray(&self) -> Option<String> {
+        let changed = |&(i, &octet): &(usize, &u8)| octet != canary(i);
+        let before = self.whole.iter().enumerate().take(self.from);
+        let after = self.whole.iter().enumerate().skip(self.to);
+        let (i, _) = before.chain(after).find(changed)?;
+        let (from, to) = (self.from, self.to);
+        Some(format!("octet {i} was written, the lent part is {from}..{to}"))
+    }
+
+    /// As [`Self::stray`], of a part that was lent to be read only.
+    fn stray_read_only(&self, octets: &[u8]) -> Option<String> {
+        let written = || Some("a buffer lent to be read was written".into());
+        self.stray().or_else(|| if self.part() == octets { None } else { written() })
+    }
+}
+
+fn canary(i: usize) -> u8 {
+    (i * 167 + 13) as u8
+}
+
+/// A table and a store of the library.
+pub struct Library {
+    table: Guarded,
+    store: Guarded,
+    shift: usize,
+}
+
+impl Library {
+    /// Lends these octets as table and store.
+    pub fn new(table: &[u8], store: &[u8], shift: usize) -> Self {
+        Library {
+            table: Guarded::new(table, shift % 8),
+            store: Guarded::new(store, shift / 8 % 8),
+            shift,
+        }
+    }
+
+    /// Lends `read` to be read and `written` to be written.
+    fn lend(
+        &mut self,
+        read: &[u8],
+        written: &[u8],
+        call: impl FnOnce(&mut Self, &[u8], &mut [u8]) -> Returned,
+    ) -> Told {
+        self.shift = self.shift.wrapping_add(1);
+        let input = Guarded::new(read, self.shift % 8);
+        let mut output = Guarded::new(written, self.shift / 8 % 8);
+        let returned = call(self, input.part(), output.part_mut());
+        let stray = input.stray_read_only(read).or_else(|| output.stray());
+        Told { returned, out: output.part().to_vec(), stray }
+    }
+
+    fn answer(&mut self, args: &Answering) -> Told {
+        let filter = Guarded::new(&args.filter, self.shift % 5);
+        let information = Guarded::new(&args.information, self.shift % 3);
+        let occasion = Occasion {
+            receive: args.header.receive,
+            estimate: args.header.transmit,
+            fresh: ServerCookie(args.header.server_cookie),
+        };
+        let server = Server {
+            leap: args.header.leap,
+            stratum: args.header.stratum,
+            poll: args.header.poll,
+            precision: args.header.precision,
+            timescale: args.header.timescale,
+            era: args.header.era,
+            flags: args.header.flags,
+            root_delay: args.header.root_delay,
+            root_dispersion: args.header.root_dispersion,
+            filter: filter.part(),
+            information: information.part(),
+        };
+        let mut told = self.lend(&args.request, &args.out, |side, request, out| {
+            let store = side.store.part_mut();
+            Returned::Written(calls::answer(store, request, &occasion, &server, out))
+        });
+        let stray = filter.stray_read_only(&args.filter);
+        let stray = stray.or_else(|| information.stray_read_only(&args.information));
+        told.stray = told.stray.or(stray);
+        told
+    }
+
+    /// The calls on a table.
+    fn client(&mut self, call: &Call) -> Told {
+        let refusal = |returned| Told::new(Returned::Refusal(returned), Vec::new());
+        let table = self.table.part_mut();
+        match call {
+            Call::Clear => refusal(calls::clear(table)),
+            &Call::Open { association, timescale, chunk } => {
+                refusal(calls::open(table, association, timescale, chunk))
+            }
+            &Call::Close { association } => refusal(calls::close(table, association)),
+            &Call::Sent { association, t1 } => refusal(calls::sent(table, association, t1)),
+            &Call::Poll { association, cookie, exponent, interleaved, ref out } => {
+                self.lend(&[], out, |side, _, out| {
+                    let table = side.table.part_mut();
+                    Returned::Written(calls::poll(
+                        table,
+                        association,
+                        cookie,
+                        exponent,
+                        interleaved,
+                        out,
+                    ))
+                })
+            }
+            &Call::Receive { association, ref datagram, t4 } => {
+                self.lend(datagram, &[], |side, datagram, _| {
+                    let table = side.table.part_mut();
+                    Returned::Received(calls::receive(table, association, datagram, t4))
+                })
+            }
+            Call::Verdict { association, id } => self.lend(id, &[], |side, id, _| {
+                Returned::Verdict(calls::loop_verdict(side.table.part(), *association, id))
+            }),
+            Call::Publish { selected, id, out } => self.lend(id, out, |side, id, out| {
+                Returned::Written(calls::publish(side.table.part(), *selected, id, out))
+            }),
+            _ => unreachable!("no call on a table"),
+        }
+    }
+
+    /// The calls without table and store.
+    fn single(&mut self, call: &Call) -> Told {
+        match call {
+            Call::HeaderRead { mode, datagram } => self.lend(datagram, &[], |_, datagram, _| {
+                Returned::Read(calls::header_read(datagram, *mode))
+            }),
+            Call::HeaderWrite { header, out } => self
+                .lend(&[], out, |_, _, out| Returned::Refusal(calls::header_write(*header, out))),
+            Call::Sound { mode, datagram } => self.lend(datagram, &[], |_, datagram, _| {
+                Returned::Refusal(calls::sound(datagram, *mode))
+            }),
+            Call::Add { filter, id } => self
+                .lend(id, filter, |_, id, filter| Returned::Refusal(calls::filter_add(filter, id))),
+            Call::Union { into, other } => self.lend(other, into, |_, other, into| {
+                Returned::Refusal(calls::filter_union(into, other))
+            }),
+            Call::Weight { filter } => self
+                .lend(filter, &[], |_, filter, _| Returned::Weight(calls::filter_weight(filter))),
+            &Call::Measure { times: [t1, t2, t3, t4] } => {
+                let offset = calls::offset(t1, t2, t3, t4);
+                let delay = calls::delay(t1, t2, t3, t4);
+                Told::new(Returned::Measured { offset, delay }, Vec::new())
+            }
+            _ => unreachable!("a call on a table or a store"),
+        }
+    }
+}
+
+impl Side for Library {
+    fn make(&mut self, call: &Call) -> Told {
+        let refusal = |returned| Told::new(Returned::Refusal(returned), Vec::new());
+        let mut told = match call {
+            Call::StoreClear => refusal(calls::store_clear(self.store.part_mut())),
+            &Call::Report { cookie, time } => {
+                refusal(calls::report(self.store.part_mut(), cookie, time))
+            }
+            Call::Answer(args) => self.answer(args),
+            _ if call.on_table() => self.client(call),
+            _ => self.single(call),
+        };
+        told.stray = told.stray.or_else(|| self.table.stray()).or_else(|| self.store.stray());
+        told
+    }
+
+    fn table(&self) -> Vec<u8> {
+        self.table.part().to_vec()
+    }
+
+    fn store(&self) -> Vec<u8> {
+        self.store.part().to_vec()
+    }
+}

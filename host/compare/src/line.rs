@@ -1,0 +1,105 @@
+//! Calls as the lines that the `cases` program reads, and their answers.
+
+use crate::call::{Answering, Call, Told};
+use ntp5::ffi::Header;
+use std::fmt::Write;
+
+/// Octets as pairs of digits; a run of four or more equal ones with its count.
+pub fn octets(octets: &[u8]) -> String {
+    if octets.is_empty() {
+        return "-".into();
+    }
+    let mut text = String::new();
+    let mut counted = false;
+    for run in octets.chunk_by(|a, b| a == b) {
+        if counted {
+            text.push(',');
+        }
+        counted = run.len() >= 4;
+        let times = if counted { 1 } else { run.len() };
+        text += &format!("{:02x}", run[0]).repeat(times);
+        if counted {
+            let _ = write!(text, "*{}", run.len());
+        }
+    }
+    text
+}
+
+/// The values that a header has before its cookies, as the lines have them.
+fn values(h: &Header) -> String {
+    let (delay, dispersion) = (h.root_delay, h.root_dispersion);
+    format!(
+        "{} {} {} {} {} {:#x} {delay:#x} {dispersion:#x}",
+        h.stratum, h.poll, h.precision, h.timescale, h.era, h.flags
+    )
+}
+
+fn answer(args: &Answering) -> String {
+    let h = &args.header;
+    format!(
+        "answer {} {:#x} {:#x} {:#x} {} {} {} {} {}",
+        octets(&args.request),
+        h.receive,
+        h.transmit,
+        h.server_cookie,
+        h.leap,
+        values(h),
+        octets(&args.filter),
+        octets(&args.information),
+        octets(&args.out)
+    )
+}
+
+fn write(h: &Header, out: &[u8]) -> String {
+    format!(
+        "write {} {} {} {:#x} {:#x} {:#x} {:#x} {}",
+        h.leap,
+        h.mode,
+        values(h),
+        h.server_cookie,
+        h.client_cookie,
+        h.receive,
+        h.transmit,
+        octets(out)
+    )
+}
+
+/// The call's line. `store` is the store before it.
+pub fn line(call: &Call, store: &[u8]) -> String {
+    match call {
+        Call::Clear => "clear".into(),
+        Call::Open { association, timescale, chunk } => {
+            format!("open {association} {timescale} {chunk}")
+        }
+        Call::Close { association } => format!("close {association}"),
+        Call::Poll { association, cookie, exponent, interleaved, out } => {
+            let mode = if *interleaved { "interleaved" } else { "basic" };
+            format!("poll {association} {cookie:#x} {exponent} {mode} {}", octets(out))
+        }
+        Call::Sent { association, t1 } => format!("sent {association} {t1:#x}"),
+        Call::Receive { association, datagram, t4 } => {
+            format!("receive {association} {t4:#x} {}", octets(datagram))
+        }
+        Call::Verdict { association, id } => format!("verdict {association} {}", octets(id)),
+        Call::Publish { selected, id, out } => {
+            format!("publish {selected:#x} {} {}", octets(id), octets(out))
+        }
+        Call::StoreClear => format!("store {}", store.len() / 16),
+        Call::Report { cookie, time } => format!("report {cookie:#x} {time:#x}"),
+        Call::Answer(args) => answer(args),
+        Call::HeaderRead { mode, datagram } => format!("header {mode} {}", octets(datagram)),
+        Call::HeaderWrite { header, out } => write(header, out),
+        Call::Sound { mode, datagram } => format!("sound {mode} {}", octets(datagram)),
+        Call::Add { filter, id } => format!("add {} {}", octets(filter), octets(id)),
+        Call::Union { into, other } => format!("union {} {}", octets(into), octets(other)),
+        Call::Weight { filter } => format!("weight {}", octets(filter)),
+        Call::Measure { times: [t1, t2, t3, t4] } => {
+            format!("measure {t1:#x} {t2:#x} {t3:#x} {t4:#x}")
+        }
+    }
+}
+
+/// What a call told, for people.
+pub fn told(told: &Told) -> String {
+    format!("{:?} {}", told.returned, octets(&told.out))
+}

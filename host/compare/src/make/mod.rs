@@ -1,0 +1,10 @@
+//! Calls drawn at random, biased so that every outcome of every call is met.
+//!
+//! A generator of calls is shown the reference's table or row, so that it can make
+//! responses that fit an outstanding request and requests that name a stored cookie.
+
+pub mod client;
+pub mod datagram;
+pub mod lent;
+pub mod responder;
+pub mod single;

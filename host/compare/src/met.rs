@@ -1,0 +1,154 @@
+//! What the calls led to, counted, and what must have been met.
+
+use crate::call::{Call, Returned, Told};
+use reference::chain::Fields;
+use reference::header::INTERLEAVED;
+use std::collections::BTreeMap;
+use std::fmt;
+
+/// Outcomes and how often they were met.
+#[derive(Clone, Debug, Default)]
+pub struct Met(BTreeMap<String, u64>);
+
+impl Met {
+    /// Counts what a call led to.
+    pub fn count(&mut self, call: &Call, told: &Told) {
+        let outcome = format!("{} {}", name(call), outcome(call, told));
+        *self.0.entry(outcome).or_default() += 1;
+        if matches!(call, Call::Answer(_)) && told.returned.refusal() == 0 {
+            let Returned::Written(written) = told.returned else {
+                return;
+            };
+            let fields = Fields::of(&told.out[..written.length.into()]);
+            for field in fields.map_while(Result::ok) {
+                *self.0.entry(format!("answer field {:04x}", field.kind)).or_default() += 1;
+            }
+        }
+    }
+
+    /// The calls counted.
+    pub fn calls(&self) -> u64 {
+        let calls = self.0.iter().filter(|(outcome, _)| !outcome.starts_with("answer field"));
+        calls.map(|(_, count)| count).sum()
+    }
+
+    /// What must be met and was not.
+    pub fn missing(&self) -> Vec<String> {
+        let missing = |outcome: &String| !self.0.contains_key(outcome);
+        required().into_iter().filter(missing).collect()
+    }
+}
+
+impl fmt::Display for Met {
+    fn fmt(&self, f: &mut fmt::Formatter) -> fmt::Result {
+        self.0.iter().try_for_each(|(outcome, count)| writeln!(f, "{count:>10}  {outcome}"))
+    }
+}
+
+fn name(call: &Call) -> &'static str {
+    match call {
+        Call::Clear => "clear",
+        Call::Open { .. } => "open",
+        Call::Close { .. } => "close",
+        Call::Poll { .. } => "poll",
+        Call::Sent { .. } => "sent",
+        Call::Receive { .. } => "receive",
+        Call::Verdict { .. } => "verdict",
+        Call::Publish { .. } => "publish",
+        Call::StoreClear => "store",
+        Call::Report { .. } => "report",
+        Call::Answer(_) => "answer",
+        Call::HeaderRead { .. } => "header",
+        Call::HeaderWrite { .. } => "write",
+        Call::Sound { .. } => "sound",
+        Call::Add { .. } => "add",
+        Call::Union { .. } => "union",
+        Call::Weight { .. } => "weight",
+        Call::Measure { .. } => "measure",
+    }
+}
+
+/// Whether the flag is set in a datagram's header.
+fn interleaved(datagram: &[u8]) -> &'static str {
+    if u16::from_be_bytes([datagram[6], datagram[7]]) & INTERLEAVED != 0 {
+        "interleaved"
+    } else {
+        "basic"
+    }
+}
+
+fn outcome(call: &Call, told: &Told) -> String {
+    let refusal = told.returned.refusal();
+    if refusal != 0 {
+        return refusal.to_string();
+    }
+    match (call, &told.returned) {
+        (Call::Poll { .. }, _) => {
+            let known = told.out[16..24] != [0; 8];
+            format!("0 {}{}", interleaved(&told.out), if known { " with cookie" } else { "" })
+        }
+        (Call::Receive { datagram, .. }, Returned::Received(received)) => {
+            let (judgement, chunk) = (received.judgement, received.chunk);
+            format!("0 {} judgement {judgement} chunk {chunk}", interleaved(datagram))
+        }
+        (_, Returned::Verdict(verdict)) => format!("0 {}", verdict.verdict),
+        (Call::Publish { selected, .. }, _) => format!("0 of {}", selected.count_ones().min(2)),
+        (Call::Answer(args), _) => {
+            format!("0 {} to {}", interleaved(&told.out), interleaved(&args.request))
+        }
+        _ => "0".into(),
+    }
+}
+
+/// Every refusal of every call, every judgement with every chunk outcome, every verdict.
+fn required() -> Vec<String> {
+    let refusals: [(&str, &[u8]); 18] = [
+        ("clear", &[0, 6]),
+        ("open", &[0, 6, 7]),
+        ("close", &[0, 6, 7]),
+        ("poll", &[6, 7, 8, 11]),
+        ("sent", &[0, 6, 7]),
+        ("receive", &[6, 7, 1, 2, 3, 4, 5, 9, 10]),
+        ("verdict", &[6, 7]),
+        ("publish", &[6, 7, 11]),
+        ("store", &[0, 6]),
+        ("report", &[0, 6, 12]),
+        ("answer", &[6, 1, 2, 3, 4, 5, 8, 11]),
+        ("header", &[0, 1, 2, 3]),
+        ("write", &[0, 6, 11]),
+        ("sound", &[0, 1, 2, 3, 4, 5]),
+        ("add", &[0, 6]),
+        ("union", &[0, 6]),
+        ("weight", &[0, 6]),
+        ("measure", &[0]),
+    ];
+    let outcomes = [
+        "poll 0 basic",
+        "poll 0 interleaved",
+        "poll 0 interleaved with cookie",
+        "verdict 0 1",
+        "verdict 0 2",
+        "verdict 0 3",
+        "publish 0 of 0",
+        "publish 0 of 1",
+        "publish 0 of 2",
+        "answer 0 basic to basic",
+        "answer 0 basic to interleaved",
+        "answer 0 interleaved to interleaved",
+        "answer field f501",
+        "answer field f504",
+        "answer field f505",
+        "answer field f5ff",
+    ];
+    let mut required: Vec<String> = outcomes.map(String::from).to_vec();
+    for (call, numbers) in refusals {
+        required.extend(numbers.iter().map(|number| format!("{call} {number}")));
+    }
+    for mode in ["basic", "interleaved"] {
+        for judgement in 0..=4 {
+            let chunk = |chunk| format!("receive 0 {mode} judgement {judgement} chunk {chunk}");
+            required.extend((1..=3).map(chunk));
+        }
+    }
+    required
+}

@@ -1,0 +1,156 @@
+//! Random calls made on the library and on the reference, and compared.
+
+use crate::call::{Call, Side};
+use crate::library::Library;
+use crate::line;
+use crate::make;
+use crate::met::Met;
+use crate::plain::{Lent, Plain};
+use crate::random::Random;
+
+/// One list of calls on the sides that are compared.
+struct Trial {
+    library: Library,
+    /// The reference on octets, where `Plain` is compared too.
+    lent: Option<Lent>,
+    made: Vec<String>,
+    keep: bool,
+}
+
+/// What kind of list is made.
+#[derive(Clone, Copy, Debug, PartialEq, Eq)]
+enum Kind {
+    /// Calls on a table from a cleared one.
+    Client,
+    /// Calls on a store from a cleared one.
+    Responder,
+    /// Calls without table and store.
+    Single,
+    /// A few calls on any octets lent as a table.
+    AnyTable,
+    /// A few calls on any octets lent as a store.
+    AnyStore,
+}
+
+/// Lists on any octets are short, so they are made more often.
+fn kind(random: &mut Random) -> Kind {
+    if random.one_in(25) {
+        random.pick(&[Kind::Client, Kind::Client, Kind::Responder, Kind::Single])
+    } else {
+        random.pick(&[Kind::AnyTable, Kind::AnyStore])
+    }
+}
+
+/// Makes at least `count` calls, in lists each with a seed of its own. A difference
+/// is told with the calls that led to it.
+pub fn run(seed: u64, count: u64, met: &mut Met) -> Result<(), String> {
+    let mut random = Random::new(seed);
+    let mut done = 0;
+    while done < count {
+        let kind = kind(&mut random);
+        let own = random.any();
+        // Lines are long: only a list that failed is made again to be told.
+        done += list(kind, own, false, met).or_else(|_| {
+            let told = list(kind, own, true, &mut Met::default());
+            told.map_err(|text| format!("{kind:?} list with seed {own:#x} of {seed:#x}:\n{text}"))
+        })?;
+    }
+    Ok(())
+}
+
+/// One list of calls; gives their number.
+fn list(kind: Kind, seed: u64, keep: bool, met: &mut Met) -> Result<u64, String> {
+    let mut random = Random::new(seed);
+    match kind {
+        Kind::Client | Kind::Responder | Kind::Single => reached(kind, &mut random, keep, met),
+        Kind::AnyTable | Kind::AnyStore => any(kind, &mut random, keep, met),
+    }
+}
+
+/// Calls from a cleared table and store, compared with the plain ones and with lent octets.
+fn reached(kind: Kind, random: &mut Random, keep: bool, met: &mut Met) -> Result<u64, String> {
+    let records = random.pick(&[1, 1, 2, 3, 4, 8, 16, 63, 64]);
+    let length = random.pick(&[10, 40, 160, 600]);
+    let (table, store) = (vec![0; reference::lent::TABLE_OCTETS], vec![0; 16 * records]);
+    // The generator is shown this one; it is compared as the others are.
+    let mut plain = Plain::new(records);
+    let mut trial = Trial {
+        library: Library::new(&table, &store, random.below(64)),
+        lent: Some(Lent { table, store }),
+        made: vec![format!("clear\nstore {records}")],
+        keep,
+    };
+    for _ in 0..length {
+        let call = match kind {
+            Kind::Client => make::client::call(random, &plain.table),
+            Kind::Responder => make::responder::call(random, plain.store.row()),
+            _ => make::single::call(random),
+        };
+        trial.compare(&call, &mut plain, met)?;
+    }
+    Ok(length as u64)
+}
+
+/// A few calls on any octets.
+fn any(kind: Kind, random: &mut Random, keep: bool, met: &mut Met) -> Result<u64, String> {
+    let on_table = kind == Kind::AnyTable;
+    let table = if on_table { make::lent::table(random) } else { Vec::new() };
+    let store = if on_table { Vec::new() } else { make::lent::store(random) };
+    let lent = || match kind {
+        Kind::AnyTable => format!("# on a table with these octets: {}", line::octets(&table)),
+        _ => format!("lend {}", line::octets(&store)),
+    };
+    let length = 1 + random.below(6);
+    let mut side = Lent { table: table.clone(), store: store.clone() };
+    let mut trial = Trial {
+        library: Library::new(&table, &store, random.below(64)),
+        lent: None,
+        made: keep.then(lent).into_iter().collect(),
+        keep,
+    };
+    for _ in 0..length {
+        let call = match (on_table, random.one_in(20)) {
+            (true, true) => Call::Clear,
+            (true, false) => make::client::call(random, &make::lent::known_table(&side.table)),
+            (false, true) => Call::StoreClear,
+            (false, false) => make::responder::call(random, &make::lent::known_row(&side.store)),
+        };
+        trial.compare(&call, &mut side, met)?;
+    }
+    Ok(length as u64)
+}
+
+impl Trial {
+    /// Makes the call on every side and compares all that it told and left.
+    fn compare(&mut self, call: &Call, side: &mut dyn Side, met: &mut Met) -> Result<(), String> {
+        if self.keep {
+            self.made.push(line::line(call, &self.library.store()));
+        }
+        let told = self.library.make(call);
+        met.count(call, &told);
+        let mut faults: Vec<String> = told.stray.iter().cloned().collect();
+        let lent = self.lent.as_mut().map(|lent| lent as &mut dyn Side);
+        for side in [Some(side), lent].into_iter().flatten() {
+            let expected = side.make(call);
+            if expected.returned != told.returned || expected.out != told.out {
+                faults.push(format!("reference: {}", line::told(&expected)));
+            }
+            faults.extend(differing("table", &self.library.table(), &side.table()));
+            faults.extend(differing("store", &self.library.store(), &side.store()));
+        }
+        if faults.is_empty() {
+            return Ok(());
+        }
+        let (made, told) = (self.made.join("\n"), line::told(&told));
+        Err(format!("{made}\n# library: {told}\n# {}", faults.join("\n# ")))
+    }
+}
+
+/// Where two buffers differ first.
+fn differing(what: &str, library: &[u8], reference: &[u8]) -> Option<String> {
+    if library == reference {
+        return None;
+    }
+    let at = library.iter().zip(reference).position(|(a, b)| a != b);
+    Some(format!("the {what} differs from the reference's at octet {at:?}"))
+}

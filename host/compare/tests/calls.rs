@@ -1,0 +1,32 @@
+//! Random calls: the library and the reference tell and leave the same.
+
+use compare::met::Met;
+use compare::{reorder, trial};
+
+/// At least this many calls are compared.
+const CALLS: u64 = 500_000;
+
+#[test]
+fn library_is_reference() {
+    let mut met = Met::default();
+    if let Err(difference) = trial::run(1, CALLS, &mut met) {
+        panic!("{difference}");
+    }
+    print!("{met}");
+    assert!(met.calls() >= CALLS);
+    assert_eq!(met.missing(), Vec::<String>::new(), "outcomes that were not met");
+}
+
+#[test]
+fn reorderings_tell_the_same() {
+    for seed in 0..200 {
+        if let Err(difference) = reorder::run(seed) {
+            panic!("{difference}");
+        }
+    }
+}
+
+#[test]
+fn table_has_its_size() {
+    assert_eq!(ntp5::ffi::calls::table_octets(), reference::lent::TABLE_OCTETS);
+}

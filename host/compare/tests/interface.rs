@@ -1,0 +1,75 @@
+//! The C header, the Rust declarations and the Rattle source declare one interface.
+
+use compare::interface::Interface;
+use std::path::{Path, PathBuf};
+use std::{env, fs};
+
+/// Parameters with another name in Rattle, where the interface's is taken: `poll` by the
+/// definition that the contract cites, `header` by a crate.
+const RATTLE_NAMES: [(&str, &str, &str); 2] =
+    [("ntp5_poll", "exponent", "poll"), ("ntp5_header_write", "fields", "header")];
+
+/// The repository's top, or where `$NTP5_TOP` says that header and Rattle source stand.
+fn top() -> PathBuf {
+    let own = || Path::new(env!("CARGO_MANIFEST_DIR")).join("../..");
+    env::var_os("NTP5_TOP").map_or_else(own, PathBuf::from)
+}
+
+fn text(path: &Path) -> String {
+    fs::read_to_string(path).unwrap_or_else(|error| panic!("{}: {error}", path.display()))
+}
+
+fn header() -> Interface {
+    Interface::of_c(&text(&top().join("include/ntp5.h")))
+}
+
+fn rust() -> Interface {
+    Interface::of_rust(include_str!("../../ntp5/src/ffi/mod.rs"))
+}
+
+fn rattle() -> Interface {
+    let folder = top().join("crates/ntp5/src");
+    let entries = fs::read_dir(&folder);
+    let entries = entries.unwrap_or_else(|error| panic!("{}: {error}", folder.display()));
+    let files = entries.map(|entry| entry.expect("an entry of the folder").path());
+    let sources = files.filter(|path| path.extension().is_some_and(|end| end == "rt"));
+    let mut interface = Interface::of_rust(&sources.map(|path| text(&path)).collect::<String>());
+    for (function, own, name) in RATTLE_NAMES {
+        let parameters = interface.functions.get_mut(function).into_iter().flatten();
+        parameters.filter(|(name, _)| name == own).for_each(|pair| pair.0 = name.into());
+    }
+    interface
+}
+
+#[test]
+fn header_and_rust() {
+    let (header, rust) = (header(), rust());
+    assert_eq!((header.structs.len(), header.functions.len()), (6, 20));
+    let lines = header.differences(&rust);
+    assert!(lines.is_empty(), "header here, Rust there:\n{}", lines.join("\n"));
+}
+
+#[test]
+fn header_and_rattle() {
+    let lines = header().differences(&rattle());
+    assert!(lines.is_empty(), "header here, Rattle there:\n{}", lines.join("\n"));
+}
+
+#[test]
+fn differences_are_found() {
+    let one = "typedef struct { uint8_t a; int8_t b, c; } ntp5_s; uint8_t ntp5_f(const uint8_t *p, size_t p_len);";
+    let rust = "#[repr(C)] struct S { pub a: u8, pub b: i8, pub c: i8 } fn ntp5_f(p: &[u8]) -> u8;";
+    assert_eq!(Interface::of_c(one), Interface::of_rust(rust));
+    for (from, to) in [
+        ("b: i8", "b: u8"),
+        ("a: u8", "z: u8"),
+        ("a: u8, pub b: i8", "b: i8, pub a: u8"),
+        ("&[u8]", "&mut [u8]"),
+        ("-> u8", "-> u16"),
+        (", pub c: i8", ""),
+        ("ntp5_f", "ntp5_g"),
+    ] {
+        let other = Interface::of_rust(&rust.replace(from, to));
+        assert!(!Interface::of_c(one).differences(&other).is_empty(), "{from} for {to}");
+    }
+}
