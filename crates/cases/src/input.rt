@@ -1,4 +1,4 @@
-// Standard input as lines: each is gathered octet by octet and run when it ends.
+// The input as lines: each is gathered octet by octet and run when it ends.
 use crate::calls;
 use crate::words;
 use text::find;
@@ -18,11 +18,11 @@ struct Line {
 }
 
 // Reads more of the input if all that was read has been gathered. The end of the input ends a line.
-fn refill(text: &mut [u8], state: Line) -> Line {
+fn refill(file: i32, text: &mut [u8], state: Line) -> Line {
     if state.at < state.count {
         return state;
     }
-    let count = io::count(libc::read(0, text), text);
+    let count = io::count(libc::read(file, text), text);
     Line {
         number: state.number,
         length: state.length,
@@ -83,7 +83,7 @@ fn finish(line: &[u8], state: Line, table: &mut [u8], kept: &mut [u8]) -> Line {
 
 // Reads to the end of the input. A proved loop has to end, and nothing says that the input does: so the
 // loop counts its turns down, from a number that no run uses up.
-pub(crate) fn run_all() {
+pub(crate) fn run_all(file: i32) {
     let mut text = io::large_buffer();
     let mut line = io::large_buffer();
     let mut table = [0u8; 10240];
@@ -100,7 +100,7 @@ pub(crate) fn run_all() {
     let mut turns = u64::MAX;
     while turns > 0 && !state.last {
         turns -= 1;
-        state = refill(&mut text, state);
+        state = refill(file, &mut text, state);
         state = gather(part(&text, 0, state.count), state, &mut line);
         state = finish(&line, state, &mut table, &mut kept);
     }

@@ -1,0 +1,129 @@
+#!/usr/bin/env python3
+"""Write examples/rack.cases: a small rack's story as calls, with what happens in comments.
+
+usage: rack_make.py > examples/rack.cases
+
+The answers that travel are those of the models in client_model.py and responder_model.py.
+"""
+import sys
+
+sys.dont_write_bytecode = True      # no generated folder beside the sources
+from cases_model import text_of                 # noqa: E402
+from client_make import filter_of               # noqa: E402
+from client_model import Table                  # noqa: E402
+from responder_model import SERVER, Store       # noqa: E402
+
+OWN = bytes.fromhex("0102030405060708090a0b0c0d0e0f")
+CLOCK, NEIGHBOUR = bytes.fromhex("c10c" * 7 + "c1"), bytes.fromhex("4e" * 15)
+VALUES = {"leap": 0, "stratum": 1, "poll": 4, "precision": -20, "timescale": 0, "era": 0, "flags": 0, "root_delay": 0x100,
+          "root_dispersion": 0x200}
+INFORMATION = bytes.fromhex("00000005")
+SECOND = 2 ** 32        # a timestamp has 32 fraction bits
+SIZE = 256
+
+
+class Story:
+    def __init__(self):
+        self.table, self.store = Table(), Store()
+
+    def tell(self, *sentences):
+        print()
+        for sentence in sentences:
+            print(f"# {sentence}")
+
+    def open(self, association):
+        print(f"open {association} 0 {SIZE}")
+        self.table.open(association, 0, SIZE)
+
+    def poll(self, association, cookie, mode="basic", t1=None):
+        print(f"poll {association} {cookie:#x} 4 {mode} 00*{84 + SIZE}")
+        _, length, output = self.table.poll(association, cookie, 4, mode == "interleaved", bytes(84 + SIZE))
+        if t1:
+            print(f"sent {association} {t1:#x}")
+            self.table.sent(association, t1)
+        return output[:length]
+
+    def answer(self, request, receive, estimate, fresh, filter_octets):
+        server = [VALUES[name] for name in SERVER]
+        words = [text_of(request), f"{receive:#x}", f"{estimate:#x}", f"{fresh:#x}", *server, text_of(filter_octets),
+                 text_of(INFORMATION), f"00*{len(request)}"]
+        print("answer " + " ".join(map(str, words)))
+        return self.store.answer(request, receive, estimate, fresh, *server, filter_octets, INFORMATION,
+                                 bytes(len(request)))[2]
+
+    def report(self, cookie, time):
+        print(f"report {cookie:#x} {time:#x}")
+        self.store.report(cookie, time)
+
+    def receive(self, association, t4, datagram):
+        print(f"receive {association} {t4:#x} {text_of(datagram)}")
+        self.table.receive(association, t4, datagram)
+
+
+def main():
+    story, start = Story(), 5000 * SECOND
+    good, looping = filter_of(CLOCK), filter_of(NEIGHBOUR, OWN)
+    print("# A management controller and its two servers, call by call.")
+    story.tell("Our controller has a table for sixteen servers. It is cleared once, before anything else: 0 is success.")
+    print("clear")
+    story.tell("Server 0 is the rack's clock, server 1 a neighbour. Filters come in chunks of 256 octets, so two each.")
+    story.open(0)
+    story.open(1)
+    story.tell("The clock keeps the send times of its last answers in a store, here of four records.")
+    print("store 4")
+    story.store.clear(4)
+
+    story.tell("A basic exchange. We ask the clock, with a cookie that is never used again, for time and the first chunk:",
+               "340 octets go out, and then the time at which they went (T1).")
+    request = story.poll(0, 0xC1, "interleaved", start)
+    story.tell("The clock answers; it is a second ahead of us. It thinks that it sends 16 units after it got the request. The answer",
+               "is as long as the request, and its fresh cookie waits in the store for the true send time.")
+    octets = story.answer(request, start + SECOND, start + SECOND + 16, 0x51, good)
+    story.tell("It went out a little later than thought. The clock reports that, and the store holds cookie and time.")
+    story.report(0x51, start + SECOND + 80)
+    story.tell("We receive it: usable (judgement 0), its chunk taken (1). The offset is about a second, in units of 2^-32 s.")
+    story.receive(0, start + 96, octets)
+
+    story.tell("An interleaved exchange. We repeat the clock's cookie, so that it tells the true send time of its last answer.")
+    later = start + 16 * SECOND
+    request = story.poll(0, 0xC2, "interleaved", later)
+    octets = story.answer(request, later + SECOND, later + SECOND + 16, 0x52, good)
+    story.tell("The measurement is of the exchange before, with the true send time: the delay is smaller, the offset nearer to a",
+               "second. Both chunks of the clock's filter are there now.")
+    story.receive(0, later + 96, octets)
+
+    story.tell("A late duplicate of that answer comes. Its request was used up: refused with 9, and nothing changes.")
+    story.receive(0, later + 200, octets)
+
+    story.tell("Two answers that arrive mixed. We ask both servers; the neighbour's answer comes first.",
+               "Each chunk goes to its own server's filter, at the offset that its own request asked.")
+    turn = start + 32 * SECOND
+    mine, theirs = story.poll(0, 0xC3, t1=turn), story.poll(1, 0xD1, t1=turn + 5)
+    first = story.answer(mine, turn + SECOND, turn + SECOND + 16, 0, good)
+    second = story.answer(theirs, turn + 40, turn + 56, 0, looping)
+    story.receive(1, turn + 100, second)
+    story.receive(0, turn + 96, first)
+
+    story.tell("Do we follow ourselves? Of the neighbour only half the filter is there: incomplete (1).")
+    print(f"verdict 1 {text_of(OWN)}")
+    story.tell("The second half.")
+    turn = start + 48 * SECOND
+    theirs = story.poll(1, 0xD2, t1=turn)
+    second = story.answer(theirs, turn + 40, turn + 56, 0, looping)
+    story.receive(1, turn + 100, second)
+    story.tell("Now the verdict is loop (2): our own ID is in the neighbour's filter, so the neighbour follows us.")
+    print(f"verdict 1 {text_of(OWN)}")
+    story.tell("The clock's filter does not have it: clear (3).")
+    print(f"verdict 0 {text_of(OWN)}")
+
+    story.tell("We follow the clock alone. Published is its filter with our own ID added, so that others can see us in it.")
+    print(f"publish 1 {text_of(OWN)} 00*512")
+
+    story.tell("Bad input is refused with its number: 47 octets (1), a field length of 3 (4), padding that is not zero (5).")
+    print("sound 4 2c00*46")
+    print("sound 4 2c00*47,f5010003")
+    print("sound 4 2c00*47,f5010005,ff,000001")
+
+
+if __name__ == "__main__":
+    main()
