@@ -103,3 +103,25 @@ pub fn line(call: &Call, store: &[u8]) -> String {
 pub fn told(told: &Told) -> String {
     format!("{:?} {}", told.returned, octets(&told.out))
 }
+
+#[cfg(test)]
+mod tests {
+    use super::*;
+
+    #[test]
+    fn octets_as_the_cases_program_reads_them() {
+        let id = [0, 0x10, 2, 0, 0, 0, 0, 0, 0, 0, 0, 0, 0, 0, 0];
+        assert_eq!(octets(&id), "00100200*12");
+        assert_eq!(octets(&[0x2B, 0, 0, 0, 0, 0xF5]), "2b00*4,f5");
+        assert_eq!(octets(&[7, 7, 7]), "070707");
+        assert_eq!(octets(&[]), "-");
+    }
+
+    #[test]
+    fn words_in_their_order() {
+        let out = vec![0; 4];
+        let poll = Call::Poll { association: 3, cookie: 16, exponent: -6, interleaved: true, out };
+        assert_eq!(line(&poll, &[]), "poll 3 0x10 -6 interleaved 00*4");
+        assert_eq!(line(&Call::StoreClear, &[0; 64]), "store 4");
+    }
+}

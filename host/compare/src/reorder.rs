@@ -80,7 +80,7 @@ pub fn run(seed: u64) -> Result<usize, String> {
         if other_told != told || other_table != table {
             let lines: Vec<String> = order.iter().map(|&i| line::line(&calls[i], &[])).collect();
             let lines = lines.join("\n");
-            return Err(format!("list with seed {seed:#x}, order {order:?}:\nclear\n{lines}"));
+            return Err(format!("# list with seed {seed:#x}, order {order:?}:\nclear\n{lines}"));
         }
     }
     Ok(length * (times + 1))

@@ -52,7 +52,7 @@ pub fn run(seed: u64, count: u64, met: &mut Met) -> Result<(), String> {
         // Lines are long: only a list that failed is made again to be told.
         done += list(kind, own, false, met).or_else(|_| {
             let told = list(kind, own, true, &mut Met::default());
-            told.map_err(|text| format!("{kind:?} list with seed {own:#x} of {seed:#x}:\n{text}"))
+            told.map_err(|text| format!("# {kind:?} list with seed {own:#x} of {seed:#x}:\n{text}"))
         })?;
     }
     Ok(())

@@ -1,0 +1,68 @@
+//! Counting a call's instructions and taking its time.
+
+use super::{Case, Side};
+use std::path::Path;
+use std::process::{Command, Stdio};
+use std::time::Instant;
+
+/// Calls whose instructions are counted together.
+pub const COUNTED: usize = 100;
+/// Calls in one taking of time.
+const TIMED: usize = 5_000;
+/// Takings of time, of which the best counts.
+const ROUNDS: usize = 15;
+
+/// The instructions of one call, by a run of `program` under callgrind, which
+/// counts only within the side's functions. `folder` takes what callgrind writes.
+pub fn instructions(program: &Path, folder: &Path, case: &Case, side: Side) -> Result<f64, String> {
+    let written = folder.join(format!("callgrind.{}.{}", case.name, side.name()));
+    let run = Command::new("valgrind")
+        .args(["-q", "--tool=callgrind", "--collect-atstart=no"])
+        .arg(format!("--toggle-collect={}", side.functions()))
+        .arg(format!("--callgrind-out-file={}", written.display()))
+        .arg(program)
+        .args(["--run", case.name, side.name()])
+        .stdout(Stdio::null())
+        .status();
+    let status = run.map_err(|error| format!("valgrind: {error}"))?;
+    if !status.success() {
+        return Err(format!("valgrind on {}: {status}", case.name));
+    }
+    let text = std::fs::read_to_string(&written);
+    let text = text.map_err(|error| format!("{}: {error}", written.display()))?;
+    let total = text.lines().find_map(|line| line.strip_prefix("summary: "));
+    let total = total.and_then(|number| number.trim().parse::<f64>().ok());
+    let total = total.filter(|total| *total > 0.0);
+    total.map(|total| total / COUNTED as f64).ok_or(format!("{}: none counted", case.name))
+}
+
+/// The nanoseconds of one call on each side, the best of several takings in turn.
+pub fn times(case: &Case) -> [f64; 3] {
+    let mut best = [f64::INFINITY; 3];
+    for _ in 0..ROUNDS {
+        for side in Side::ALL {
+            let place = &mut best[side as usize];
+            *place = place.min(taken(case, side));
+        }
+    }
+    best
+}
+
+/// One taking of time, without what the resets and the loop cost.
+fn taken(case: &Case, side: Side) -> f64 {
+    let with = elapsed(case, side, case.call(side));
+    let without = elapsed(case, side, |state| {
+        std::hint::black_box(state);
+    });
+    (with - without).max(0.0) / TIMED as f64
+}
+
+fn elapsed(case: &Case, side: Side, call: fn(&mut super::State)) -> f64 {
+    let mut state = (case.state)();
+    let start = Instant::now();
+    for _ in 0..TIMED {
+        state.reset(case.reset, side);
+        call(&mut state);
+    }
+    start.elapsed().as_nanos() as f64
+}

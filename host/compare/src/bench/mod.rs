@@ -1,0 +1,123 @@
+//! What a call costs in the library and in the reference, in instructions and in time.
+//!
+//! Each case is made on three sides. The rival is the reference's plain table and
+//! store; the reference on lent octets does all that the library does, with the
+//! same tests of what was lent.
+
+pub mod cases;
+pub mod cost;
+pub mod rival;
+pub mod state;
+
+use ntp5::ffi;
+use reference::refusal::Refusal;
+use state::State;
+
+/// Who makes a case's call.
+#[derive(Clone, Copy, Debug, PartialEq, Eq)]
+pub enum Side {
+    /// The library.
+    Library,
+    /// The reference on its plain table and store.
+    Plain,
+    /// The reference on lent octets.
+    Lent,
+}
+
+impl Side {
+    /// All sides.
+    pub const ALL: [Side; 3] = [Side::Library, Side::Plain, Side::Lent];
+
+    /// The side's name.
+    pub fn name(self) -> &'static str {
+        match self {
+            Side::Library => "library",
+            Side::Plain => "plain",
+            Side::Lent => "lent",
+        }
+    }
+
+    /// The functions whose instructions are counted, callees included.
+    fn functions(self) -> &'static str {
+        match self {
+            Side::Library => "ntp5_*",
+            Side::Plain | Side::Lent => "compare::bench::rival::*",
+        }
+    }
+}
+
+/// What brings the state back before each call.
+#[derive(Clone, Copy, Debug, PartialEq, Eq)]
+pub enum Reset {
+    /// Nothing: the call leaves the state as it was.
+    Nothing,
+    /// Another cookie.
+    Cookie,
+    /// The first association as it was.
+    Record,
+    /// The store as it was.
+    Store,
+}
+
+/// One call that is measured.
+pub struct Case {
+    /// Its name in the `ratio` lines.
+    pub name: &'static str,
+    /// What it is made on.
+    pub state: fn() -> State,
+    /// What it needs before each call.
+    pub reset: Reset,
+    /// The call on each side, in the order of [`Side::ALL`].
+    pub calls: [fn(&mut State); 3],
+}
+
+impl Case {
+    /// The call on one side.
+    fn call(&self, side: Side) -> fn(&mut State) {
+        self.calls[side as usize]
+    }
+
+    /// Makes the call `times` times; gives the state that the last one left.
+    pub fn run(&self, side: Side, times: usize) -> State {
+        let (mut state, call) = ((self.state)(), self.call(side));
+        for _ in 0..times {
+            state.reset(self.reset, side);
+            call(&mut state);
+        }
+        state
+    }
+}
+
+/// What a measured call gives back.
+trait Outcome {
+    /// 0, or the refusal number.
+    fn refusal(&self) -> u8;
+}
+
+/// The outcomes that hold their refusal.
+macro_rules! outcomes {
+    ($($kind:ty: |$told:ident| $refusal:expr;)*) => {
+        $(impl Outcome for $kind {
+            fn refusal(&self) -> u8 {
+                let $told = self;
+                $refusal
+            }
+        })*
+    };
+}
+
+outcomes! {
+    u8: |told| *told;
+    ffi::Written: |told| told.refusal;
+    ffi::Received: |told| told.refusal;
+    ffi::Verdict: |told| told.refusal;
+    ffi::Weight: |told| told.refusal;
+    i64: |_told| 0;
+    u64: |_told| 0;
+}
+
+impl<T> Outcome for Result<T, Refusal> {
+    fn refusal(&self) -> u8 {
+        self.as_ref().err().map_or(0, |refusal| refusal.number())
+    }
+}

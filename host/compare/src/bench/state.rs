@@ -1,0 +1,175 @@
+//! What the measured calls are made on: the same table, store and datagram for each side.
+
+use super::{Reset, Side};
+use crate::random::Random;
+use reference::exchange::Mode;
+use reference::header::{ClientCookie, Header, ServerCookie, INTERLEAVED, REQUEST};
+use reference::record;
+use reference::responder::{Occasion, Server};
+use reference::store::Store;
+use reference::table::Table;
+
+/// Octets of a table's record.
+const RECORD: usize = record::OCTETS;
+
+/// All that a call may need. What a call changes stands twice: as it is, and as it was.
+#[allow(missing_docs)]
+pub struct State {
+    pub plain: Table,
+    pub plain_was: Table,
+    pub table: Vec<u8>,
+    pub table_was: Vec<u8>,
+    pub plain_store: Store,
+    pub plain_store_was: Store,
+    pub store: Vec<u8>,
+    pub store_was: Vec<u8>,
+    pub datagram: Vec<u8>,
+    pub out: Vec<u8>,
+    pub filter: Vec<u8>,
+    pub id: Vec<u8>,
+    pub times: [u64; 4],
+    pub cookie: u64,
+    pub fresh: u64,
+    pub selected: u16,
+    /// The last call's refusal number.
+    pub refusal: u8,
+}
+
+impl State {
+    /// A state with this table, row of records and datagram.
+    fn new(plain: Table, store: Store, records: usize, datagram: Vec<u8>) -> Self {
+        let mut random = Random::new(5);
+        let table = plain.places.each_ref().map(record::encode).concat();
+        let mut octets = vec![0; 16 * records];
+        store.encode(&mut octets);
+        State {
+            plain: plain.clone(),
+            plain_was: plain,
+            table: table.clone(),
+            table_was: table,
+            plain_store: store.clone(),
+            plain_store_was: store,
+            store: octets.clone(),
+            store_was: octets,
+            datagram,
+            out: vec![0; 1280],
+            filter: (0..512).map(|_| random.any() as u8).collect(),
+            id: (0..15).map(|_| random.any() as u8).collect(),
+            times: [0; 4].map(|_: u64| random.any()),
+            cookie: 1 << 40,
+            fresh: 1 << 50,
+            selected: 0,
+            refusal: 0,
+        }
+    }
+
+    /// A state for calls that need no table, with this datagram.
+    pub fn with_datagram(datagram: Vec<u8>) -> Self {
+        State::new(Table::default(), Store::new(1).expect("one record"), 1, datagram)
+    }
+
+    /// Brings back what a side's call changed.
+    #[inline(never)]
+    pub fn reset(&mut self, reset: Reset, side: Side) {
+        match (reset, side) {
+            (Reset::Nothing, _) => {}
+            (Reset::Cookie, _) => self.cookie += 1,
+            (Reset::Record, Side::Plain) => {
+                self.plain.places[0].clone_from(&self.plain_was.places[0])
+            }
+            (Reset::Record, _) => self.table[..RECORD].copy_from_slice(&self.table_was[..RECORD]),
+            (Reset::Store, Side::Plain) => self.plain_store.clone_from(&self.plain_store_was),
+            (Reset::Store, _) => self.store.copy_from_slice(&self.store_was),
+        }
+    }
+
+    /// An open first association with chunks of `c` octets.
+    pub fn opened(c: u16) -> Self {
+        let mut plain = Table::default();
+        plain.open(0, 0, c).expect("an offered size");
+        State::new(plain, Store::new(1).expect("one record"), 1, Vec::new())
+    }
+
+    /// An outstanding request and its answer, `before` interleaved exchanges after opening.
+    pub fn asked(c: u16, before: u64) -> Self {
+        let (mut plain, mut store) = (Table::default(), Store::new(8).expect("eight records"));
+        plain.open(0, 0, c).expect("an offered size");
+        let mut response = exchange(&mut plain, &mut store, 1);
+        for at in 0..before {
+            plain.receive(0, &response, 1030).expect("an answer");
+            response = exchange(&mut plain, &mut store, 2 + at);
+        }
+        State::new(plain, store, 8, response)
+    }
+
+    /// Sixteen associations with complete filters; `selected` is published.
+    pub fn complete(selected: u16) -> Self {
+        let (mut plain, mut store) = (Table::default(), Store::new(8).expect("eight records"));
+        plain.open(0, 0, 512).expect("an offered size");
+        let response = exchange(&mut plain, &mut store, 1);
+        plain.receive(0, &response, 1030).expect("an answer");
+        for place in 1..16 {
+            plain.places[place] = plain.places[0].clone();
+        }
+        let mut state = State::new(plain, store, 8, response);
+        state.selected = selected;
+        state
+    }
+
+    /// A full row of 64 reported records, and a poll's request that names the middle one.
+    pub fn full_store() -> Self {
+        let mut store = Store::new(64).expect("64 records");
+        for i in 0..64 {
+            store.join(ServerCookie(1000 + i));
+            store.report(ServerCookie(1000 + i), 5000 + i).expect("a stored cookie");
+        }
+        let mut request = poll_request();
+        let asked = Header {
+            flags: INTERLEAVED,
+            server_cookie: ServerCookie(1032),
+            ..Header::read(&request, REQUEST).expect("a request")
+        };
+        asked.write(&mut request).expect("room for a header");
+        State::new(Table::default(), store, 64, request)
+    }
+}
+
+/// Polls, and answers with a filter that is all ones.
+fn exchange(plain: &mut Table, store: &mut Store, cookie: u64) -> Vec<u8> {
+    let (mut request, mut response) = ([0; 600], vec![0; 600]);
+    let polled = plain.poll(0, ClientCookie(cookie), 6, Mode::Interleaved, &mut request);
+    let length = polled.expect("a request");
+    plain.sent(0, 1000).expect("an outstanding request");
+    let occasion = Occasion { receive: 1010, estimate: 1020, fresh: ServerCookie(cookie) };
+    let answered =
+        store.answer(&request[..length], &occasion, &server(&[0xFF; 512]), &mut response);
+    response.truncate(answered.expect("an answer"));
+    store.report(occasion.fresh, 1021).expect("a stored cookie");
+    response
+}
+
+/// A basic poll's request for 16 octets.
+pub fn poll_request() -> Vec<u8> {
+    let mut state = State::opened(16);
+    let cookie = ClientCookie(state.cookie);
+    let polled = state.plain.poll(0, cookie, 6, Mode::Basic, &mut state.out);
+    state.out.truncate(polled.expect("a request"));
+    state.out
+}
+
+/// What the measured server says of itself.
+pub fn server(filter: &[u8]) -> Server<'_> {
+    Server {
+        leap: 0,
+        stratum: 1,
+        poll: 6,
+        precision: -20,
+        timescale: 0,
+        era: 0,
+        flags: 0,
+        root_delay: 1,
+        root_dispersion: 2,
+        filter,
+        information: &[1, 2, 3, 4],
+    }
+}
