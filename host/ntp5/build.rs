@@ -1,4 +1,5 @@
 //! Links `libntp5.a` from `$NTP5_LIB_DIR`, or else from the repository's target folder.
+#![forbid(unsafe_code)]
 
 use std::path::PathBuf;
 use std::{env, process};

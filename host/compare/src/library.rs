@@ -208,3 +208,23 @@ impl Side for Library {
         self.store.part().to_vec()
     }
 }
+
+#[cfg(test)]
+mod tests {
+    use super::*;
+
+    #[test]
+    fn stray_writes_are_found() {
+        let lent = Guarded::new(&[1, 2, 3], 5);
+        assert_eq!(lent.stray(), None);
+        for place in [0, GUARD + 4, GUARD + 8, GUARD + 7 + GUARD] {
+            let mut lent = lent.clone();
+            lent.whole[place] ^= 1;
+            assert!(lent.stray().is_some(), "octet {place}");
+        }
+        let mut written = lent.clone();
+        written.part_mut()[1] = 9;
+        assert_eq!(written.stray(), None);
+        assert!(written.stray_read_only(&[1, 2, 3]).is_some());
+    }
+}

@@ -1,6 +1,7 @@
 //! What the calls led to, counted, and what must have been met.
 
 use crate::call::{Call, Returned, Told};
+use reference::association::CHUNK_SIZES;
 use reference::chain::Fields;
 use reference::header::INTERLEAVED;
 use std::collections::BTreeMap;
@@ -16,19 +17,22 @@ impl Met {
         let outcome = format!("{} {}", name(call), outcome(call, told));
         *self.0.entry(outcome).or_default() += 1;
         if matches!(call, Call::Answer(_)) && told.returned.refusal() == 0 {
-            let Returned::Written(written) = told.returned else {
-                return;
-            };
+            let Returned::Written(written) = told.returned else { return };
             let fields = Fields::of(&told.out[..written.length.into()]);
             for field in fields.map_while(Result::ok) {
-                *self.0.entry(format!("answer field {:04x}", field.kind)).or_default() += 1;
+                self.also(&format!("answer field {:04x}", field.kind));
             }
         }
     }
 
+    /// Counts something else that a call led to.
+    pub fn also(&mut self, what: &str) {
+        *self.0.entry(format!("also: {what}")).or_default() += 1;
+    }
+
     /// The calls counted.
     pub fn calls(&self) -> u64 {
-        let calls = self.0.iter().filter(|(outcome, _)| !outcome.starts_with("answer field"));
+        let calls = self.0.iter().filter(|(outcome, _)| !outcome.starts_with("also: "));
         calls.map(|(_, count)| count).sum()
     }
 
@@ -100,48 +104,54 @@ fn outcome(call: &Call, told: &Told) -> String {
     }
 }
 
+/// The refusals of each call, with 0 where success has no further outcomes.
+const REFUSALS: [(&str, &[u8]); 18] = [
+    ("clear", &[0, 6]),
+    ("open", &[0, 6, 7]),
+    ("close", &[0, 6, 7]),
+    ("poll", &[6, 7, 8, 11]),
+    ("sent", &[0, 6, 7]),
+    ("receive", &[6, 7, 1, 2, 3, 4, 5, 9, 10]),
+    ("verdict", &[6, 7]),
+    ("publish", &[6, 7, 11]),
+    ("store", &[0, 6]),
+    ("report", &[0, 6, 12]),
+    ("answer", &[6, 1, 2, 3, 4, 5, 8, 11]),
+    ("header", &[0, 1, 2, 3]),
+    ("write", &[0, 6, 11]),
+    ("sound", &[0, 1, 2, 3, 4, 5]),
+    ("add", &[0, 6]),
+    ("union", &[0, 6]),
+    ("weight", &[0, 6]),
+    ("measure", &[0]),
+];
+
+/// Other outcomes that must be met.
+const OUTCOMES: [&str; 18] = [
+    "poll 0 basic",
+    "poll 0 interleaved",
+    "poll 0 interleaved with cookie",
+    "verdict 0 1",
+    "verdict 0 2",
+    "verdict 0 3",
+    "publish 0 of 0",
+    "publish 0 of 1",
+    "publish 0 of 2",
+    "answer 0 basic to basic",
+    "answer 0 basic to interleaved",
+    "answer 0 interleaved to interleaved",
+    "also: answer field f501",
+    "also: answer field f504",
+    "also: answer field f505",
+    "also: answer field f5ff",
+    "also: answer from a full row, basic",
+    "also: answer from a full row, interleaved",
+];
+
 /// Every refusal of every call, every judgement with every chunk outcome, every verdict.
 fn required() -> Vec<String> {
-    let refusals: [(&str, &[u8]); 18] = [
-        ("clear", &[0, 6]),
-        ("open", &[0, 6, 7]),
-        ("close", &[0, 6, 7]),
-        ("poll", &[6, 7, 8, 11]),
-        ("sent", &[0, 6, 7]),
-        ("receive", &[6, 7, 1, 2, 3, 4, 5, 9, 10]),
-        ("verdict", &[6, 7]),
-        ("publish", &[6, 7, 11]),
-        ("store", &[0, 6]),
-        ("report", &[0, 6, 12]),
-        ("answer", &[6, 1, 2, 3, 4, 5, 8, 11]),
-        ("header", &[0, 1, 2, 3]),
-        ("write", &[0, 6, 11]),
-        ("sound", &[0, 1, 2, 3, 4, 5]),
-        ("add", &[0, 6]),
-        ("union", &[0, 6]),
-        ("weight", &[0, 6]),
-        ("measure", &[0]),
-    ];
-    let outcomes = [
-        "poll 0 basic",
-        "poll 0 interleaved",
-        "poll 0 interleaved with cookie",
-        "verdict 0 1",
-        "verdict 0 2",
-        "verdict 0 3",
-        "publish 0 of 0",
-        "publish 0 of 1",
-        "publish 0 of 2",
-        "answer 0 basic to basic",
-        "answer 0 basic to interleaved",
-        "answer 0 interleaved to interleaved",
-        "answer field f501",
-        "answer field f504",
-        "answer field f505",
-        "answer field f5ff",
-    ];
-    let mut required: Vec<String> = outcomes.map(String::from).to_vec();
-    for (call, numbers) in refusals {
+    let mut required: Vec<String> = OUTCOMES.map(String::from).to_vec();
+    for (call, numbers) in REFUSALS {
         required.extend(numbers.iter().map(|number| format!("{call} {number}")));
     }
     for mode in ["basic", "interleaved"] {
@@ -149,6 +159,9 @@ fn required() -> Vec<String> {
             let chunk = |chunk| format!("receive 0 {mode} judgement {judgement} chunk {chunk}");
             required.extend((1..=3).map(chunk));
         }
+    }
+    for c in CHUNK_SIZES {
+        required.push(format!("also: second turn of the filter with c = {c}"));
     }
     required
 }

@@ -29,7 +29,7 @@ fn list(random: &mut Random, length: usize) -> Vec<Call> {
     let mut plain = Plain::new(1);
     let mut calls = Vec::with_capacity(length);
     for _ in 0..length {
-        let call = make::client::call(random, &plain.table);
+        let call = make::client::call(random, &plain.table, false);
         plain.make(&call);
         calls.push(call);
     }
@@ -66,16 +66,27 @@ fn made(calls: &[Call], order: &[usize]) -> (Vec<Told>, Vec<u8>) {
     (told.into_iter().map(|(_, told)| told).collect(), library.table())
 }
 
-/// Compares one list of calls with some of its reorderings; gives the calls made.
-pub fn run(seed: u64) -> Result<usize, String> {
+/// What was compared.
+#[derive(Clone, Copy, Debug, PartialEq, Eq)]
+pub struct Reordered {
+    /// Calls made.
+    pub calls: usize,
+    /// Orders that were not the list's own.
+    pub orders: usize,
+}
+
+/// Compares one list of calls with some of its reorderings.
+pub fn run(seed: u64) -> Result<Reordered, String> {
     let mut random = Random::new(seed);
     let length = random.pick(&[10, 40, 120]);
     let calls = list(&mut random, length);
     let straight: Vec<usize> = (0..length).collect();
     let (told, table) = made(&calls, &straight);
-    let times = 4;
-    for _ in 0..times {
+    let mut done = Reordered { calls: length, orders: 0 };
+    for _ in 0..4 {
         let order = reordering(&mut random, &calls);
+        done.calls += length;
+        done.orders += usize::from(order != straight);
         let (other_told, other_table) = made(&calls, &order);
         if other_told != told || other_table != table {
             let lines: Vec<String> = order.iter().map(|&i| line::line(&calls[i], &[])).collect();
@@ -83,5 +94,5 @@ pub fn run(seed: u64) -> Result<usize, String> {
             return Err(format!("# list with seed {seed:#x}, order {order:?}:\nclear\n{lines}"));
         }
     }
-    Ok(length * (times + 1))
+    Ok(done)
 }

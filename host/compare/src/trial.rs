@@ -1,6 +1,6 @@
 //! Random calls made on the library and on the reference, and compared.
 
-use crate::call::{Call, Side};
+use crate::call::{Call, Returned, Side, Told};
 use crate::library::Library;
 use crate::line;
 use crate::make;
@@ -34,7 +34,7 @@ enum Kind {
 
 /// Lists on any octets are short, so they are made more often.
 fn kind(random: &mut Random) -> Kind {
-    if random.one_in(25) {
+    if random.one_in(60) {
         random.pick(&[Kind::Client, Kind::Client, Kind::Responder, Kind::Single])
     } else {
         random.pick(&[Kind::AnyTable, Kind::AnyStore])
@@ -70,7 +70,7 @@ fn list(kind: Kind, seed: u64, keep: bool, met: &mut Met) -> Result<u64, String>
 /// Calls from a cleared table and store, compared with the plain ones and with lent octets.
 fn reached(kind: Kind, random: &mut Random, keep: bool, met: &mut Met) -> Result<u64, String> {
     let records = random.pick(&[1, 1, 2, 3, 4, 8, 16, 63, 64]);
-    let length = random.pick(&[10, 40, 160, 600]);
+    let length = random.pick(&[10, 40, 160, 600, 2000]);
     let (table, store) = (vec![0; reference::lent::TABLE_OCTETS], vec![0; 16 * records]);
     // The generator is shown this one; it is compared as the others are.
     let mut plain = Plain::new(records);
@@ -80,15 +80,39 @@ fn reached(kind: Kind, random: &mut Random, keep: bool, met: &mut Met) -> Result
         made: vec![format!("clear\nstore {records}")],
         keep,
     };
+    let calm = random.one_in(3);
     for _ in 0..length {
         let call = match kind {
-            Kind::Client => make::client::call(random, &plain.table),
+            Kind::Client => make::client::call(random, &plain.table, calm),
             Kind::Responder => make::responder::call(random, plain.store.row()),
             _ => make::single::call(random),
         };
-        trial.compare(&call, &mut plain, met)?;
+        let before = plain.clone();
+        let told = trial.compare(&call, &mut plain, met)?;
+        if let Some(what) = noted(&call, &told, &before, records) {
+            met.also(&what);
+        }
     }
     Ok(length as u64)
+}
+
+/// What else must be met: filters taken a second time, and answers from a full row.
+fn noted(call: &Call, told: &Told, before: &Plain, records: usize) -> Option<String> {
+    match (call, told.returned) {
+        (Call::Receive { association, .. }, Returned::Received(received)) => {
+            let place = before.table.places.get(usize::from(*association))?;
+            let open = place.0.as_ref().filter(|open| open.taken.complete())?;
+            let taken = received.chunk == 1;
+            taken.then(|| format!("second turn of the filter with c = {}", open.chunk))
+        }
+        (Call::Answer(args), Returned::Written(written)) => {
+            let full = before.store.row().len() == records && written.refusal == 0;
+            let asked = full && args.request[7] & 2 != 0;
+            let mode = if told.out.get(7)? & 2 != 0 { "interleaved" } else { "basic" };
+            asked.then(|| format!("answer from a full row, {mode}"))
+        }
+        _ => None,
+    }
 }
 
 /// A few calls on any octets.
@@ -111,7 +135,9 @@ fn any(kind: Kind, random: &mut Random, keep: bool, met: &mut Met) -> Result<u64
     for _ in 0..length {
         let call = match (on_table, random.one_in(20)) {
             (true, true) => Call::Clear,
-            (true, false) => make::client::call(random, &make::lent::known_table(&side.table)),
+            (true, false) => {
+                make::client::call(random, &make::lent::known_table(&side.table), false)
+            }
             (false, true) => Call::StoreClear,
             (false, false) => make::responder::call(random, &make::lent::known_row(&side.store)),
         };
@@ -122,7 +148,7 @@ fn any(kind: Kind, random: &mut Random, keep: bool, met: &mut Met) -> Result<u64
 
 impl Trial {
     /// Makes the call on every side and compares all that it told and left.
-    fn compare(&mut self, call: &Call, side: &mut dyn Side, met: &mut Met) -> Result<(), String> {
+    fn compare(&mut self, call: &Call, side: &mut dyn Side, met: &mut Met) -> Result<Told, String> {
         if self.keep {
             self.made.push(line::line(call, &self.library.store()));
         }
@@ -139,7 +165,7 @@ impl Trial {
             faults.extend(differing("store", &self.library.store(), &side.store()));
         }
         if faults.is_empty() {
-            return Ok(());
+            return Ok(told);
         }
         let (made, told) = (self.made.join("\n"), line::told(&told));
         Err(format!("{made}\n# library: {told}\n# {}", faults.join("\n# ")))

@@ -1,4 +1,5 @@
 //! The benchmark's sides make the same call: they are refused alike and leave the same.
+#![forbid(unsafe_code)]
 
 use compare::bench::cases::CASES;
 use compare::bench::Side;

@@ -1,4 +1,5 @@
 //! The C header, the Rust declarations and the Rattle source declare one interface.
+#![forbid(unsafe_code)]
 
 use compare::interface::Interface;
 use std::path::{Path, PathBuf};

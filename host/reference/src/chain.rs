@@ -45,18 +45,17 @@ impl<'a> Fields<'a> {
     fn take(chain: &'a [u8]) -> Result<(Field<'a>, &'a [u8]), Refusal> {
         let &[k0, k1, l0, l1] = chain.first_chunk().ok_or(Refusal::FieldLength)?;
         let length = usize::from(u16::from_be_bytes([l0, l1]));
-        let end = length.next_multiple_of(4);
-        if length < FIELD_HEAD || end > chain.len() {
+        if length < FIELD_HEAD {
             return Err(Refusal::FieldLength);
         }
-        let (field, rest) = chain.split_at(end);
+        let end = (length + 3) & !3;
+        let (field, rest) = chain.split_at_checked(end).ok_or(Refusal::FieldLength)?;
         let (octets, padding) = field.split_at(length);
         if padding.iter().any(|&octet| octet != 0) {
             return Err(Refusal::FieldPadding);
         }
         let kind = u16::from_be_bytes([k0, k1]);
-        let data = &octets[FIELD_HEAD..];
-        Ok((Field { kind, data }, rest))
+        Ok((Field { kind, data: &octets[FIELD_HEAD..] }, rest))
     }
 }
 
@@ -67,16 +66,31 @@ impl<'a> Iterator for Fields<'a> {
         if self.rest.is_empty() {
             return None;
         }
-        let taken = Self::take(self.rest);
-        self.rest = taken.map_or(&[], |(_, rest)| rest);
-        Some(taken.map(|(field, _)| field))
+        match Self::take(self.rest) {
+            Ok((field, rest)) => {
+                self.rest = rest;
+                Some(Ok(field))
+            }
+            Err(refusal) => {
+                self.rest = &[];
+                Some(Err(refusal))
+            }
+        }
     }
 }
 
 /// Whether a datagram is sound for a mode (refusals 1 to 5).
 pub fn sound(datagram: &[u8], wanted_mode: u8) -> Result<(), Refusal> {
     header::checked(datagram, wanted_mode)?;
-    Fields::of(datagram).try_for_each(|field| field.map(drop))
+    check(datagram)
+}
+
+/// Whether every field of a datagram can be taken from its chain (refusals 4, 5).
+pub fn check(datagram: &[u8]) -> Result<(), Refusal> {
+    for field in Fields::of(datagram) {
+        field?;
+    }
+    Ok(())
 }
 
 /// Begins a field of `n` data octets at the start of `out`: writes type, length

@@ -131,7 +131,7 @@ impl Store {
             return Err(Refusal::Argument);
         }
         let asked = Header::read(request, REQUEST)?;
-        Fields::of(request).try_for_each(|field| field.map(drop))?;
+        chain::check(request)?;
         let fresh = occasion.fresh;
         if asked.interleaved() && (fresh == ServerCookie(0) || self.holds(fresh)) {
             return Err(Refusal::Cookie);

@@ -1,4 +1,5 @@
 //! Cases M1 to M12 and the whole first poll of document 01.
+#![forbid(unsafe_code)]
 
 use reference::chain::sound;
 use reference::exchange::Mode;

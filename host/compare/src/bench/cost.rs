@@ -1,5 +1,6 @@
 //! Counting a call's instructions and taking its time.
 
+use super::state::State;
 use super::{Case, Side};
 use std::path::Path;
 use std::process::{Command, Stdio};
@@ -36,28 +37,24 @@ pub fn instructions(program: &Path, folder: &Path, case: &Case, side: Side) -> R
     total.map(|total| total / COUNTED as f64).ok_or(format!("{}: none counted", case.name))
 }
 
-/// The nanoseconds of one call on each side, the best of several takings in turn.
+/// The nanoseconds of one call on each side, without what the resets and the loop
+/// cost: the best of several takings with the call, less the best without it.
 pub fn times(case: &Case) -> [f64; 3] {
-    let mut best = [f64::INFINITY; 3];
+    let (mut with, mut without) = ([f64::INFINITY; 3], [f64::INFINITY; 3]);
+    let nothing = |state: &mut State| {
+        std::hint::black_box(state);
+    };
     for _ in 0..ROUNDS {
         for side in Side::ALL {
-            let place = &mut best[side as usize];
-            *place = place.min(taken(case, side));
+            let i = side as usize;
+            with[i] = with[i].min(elapsed(case, side, case.call(side)));
+            without[i] = without[i].min(elapsed(case, side, nothing));
         }
     }
-    best
+    Side::ALL.map(|side| (with[side as usize] - without[side as usize]) / TIMED as f64)
 }
 
-/// One taking of time, without what the resets and the loop cost.
-fn taken(case: &Case, side: Side) -> f64 {
-    let with = elapsed(case, side, case.call(side));
-    let without = elapsed(case, side, |state| {
-        std::hint::black_box(state);
-    });
-    (with - without).max(0.0) / TIMED as f64
-}
-
-fn elapsed(case: &Case, side: Side, call: fn(&mut super::State)) -> f64 {
+fn elapsed(case: &Case, side: Side, call: fn(&mut State)) -> f64 {
     let mut state = (case.state)();
     let start = Instant::now();
     for _ in 0..TIMED {

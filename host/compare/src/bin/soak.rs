@@ -29,7 +29,7 @@ fn step(seed: u64, count: u64, met: &mut Met) -> Result<u64, String> {
     trial::run(seed, count, met)?;
     let mut reordered = 0;
     while reordered < count / 10 {
-        reordered += reorder::run(seed.wrapping_add(reordered))? as u64;
+        reordered += reorder::run(seed.wrapping_add(reordered))?.calls as u64;
     }
     Ok(reordered)
 }

@@ -6,12 +6,13 @@ use crate::random::Random;
 use reference::association::{Association, CHUNK_SIZES};
 use reference::table::Table;
 
-/// A call on a table like this one.
-pub fn call(random: &mut Random, table: &Table) -> Call {
+/// A call on a table like this one. If `calm`, an open association mostly stays so.
+pub fn call(random: &mut Random, table: &Table, calm: bool) -> Call {
     let association = association(random);
     let place = table.places.get(usize::from(association));
     let open = place.and_then(|place| place.0.as_ref());
     match random.below(200) {
+        0..20 if calm && !random.one_in(50) => exchanging(random, association, open),
         0 => Call::Clear,
         1..8 => Call::Close { association },
         8..20 => opening(random, association),
