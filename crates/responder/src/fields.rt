@@ -4,7 +4,6 @@ use chain::cursor::Cursor;
 use chain::cursor::Field;
 use chain::cursor::Step;
 use chain::role;
-use chain::role::Met;
 use chain::role::Role;
 use octets::number;
 use octets::part;
@@ -15,6 +14,7 @@ ghost use lib.ListN.{length, take, drop};
 ghost use Rattle.chain.specs.Chain.{padded};
 ghost use Rattle.chain.specs.Content.{content, chainOctets};
 ghost use Rattle.chain.specs.Field.{fieldsFrom};
+ghost use Rattle.chain.specs.Role.{noneMet};
 ghost use Rattle.chain.proofs.Roles.{Suits};
 ghost use Rattle.responder.specs.Answer.{answerTo, paddingOf};
 ghost use Rattle.responder.specs.Pass.{Lays, answersWith};
@@ -61,37 +61,27 @@ fn answer_to(
     }
 }
 
-// Writes the answers to the fields from the cursor on, and answers the place after them.
-pub(crate) fn answers(
-    cursor: Cursor,
-    request: &[u8],
-    met: Met,
-    filter: &[u8],
-    information: &[u8],
-    out: &mut [u8],
-    at: usize,
-) -> usize
-    requires { ⌜ (length (now filter) ≡ 512) × (length (now information) ≡ 4) × (length (now request) ≤ length (now out))
-        × (at ≤ cursor .at) × (cursor .at ≤ length (now request)) ⌝ }
-    ensures { λ r. ⌜ Lays (now (out .entry)) at
-        (chainOctets (answersWith (now (request .entry)) (now (filter .entry)) (now (information .entry)) met (fieldsFrom (now (request .entry)) (cursor .at))))
+// Writes the answers to the request's fields after the header, and answers the place after them. A loop, so that many fields take no more
+// stack than one.
+pub(crate) fn answers(request: &[u8], filter: &[u8], information: &[u8], out: &mut [u8]) -> usize
+    requires { ⌜ (length (now filter) ≡ 512) × (length (now information) ≡ 4) × (length (now request) ≤ length (now out)) × (48 ≤ length (now request)) ⌝ }
+    ensures { λ r. ⌜ Lays (now (out .entry)) 48
+        (chainOctets (answersWith (now (request .entry)) (now (filter .entry)) (now (information .entry)) noneMet (fieldsFrom (now (request .entry)) 48)))
         r (now (out .exit)) × (r ≤ length (now (request .entry))) ⌝ }
 {
-    let Step::Found(field, next) = cursor.step(request) else {
-        return at;
-    };
-    let kind = field.kind;
-    let role = role::role_of(request, field, met);
-    let reached = answer_to(role, field, filter, information, out, at);
-    answers(
-        next,
-        request,
-        role::met_after(met, kind),
-        filter,
-        information,
-        out,
-        reached,
-    )
+    let mut cursor = Cursor { at: 48 };
+    let mut met = role::none_met();
+    let mut at = 48;
+    while cursor.at < request.len() {
+        let Step::Found(field, next) = cursor.step(request) else {
+            return at;
+        };
+        let role = role::role_of(request, field, met);
+        at = answer_to(role, field, filter, information, out, at);
+        met = role::met_after(met, field.kind);
+        cursor = next;
+    }
+    at
 }
 
 // Fills what is left with one padding field.

@@ -1,8 +1,6 @@
 // The octets of an answer.
 use crate::Server;
 use crate::fields;
-use chain::cursor::Cursor;
-use chain::role;
 use header::Header;
 use header::ServerCookie;
 ghost use mathlib.Core.Path.{_≡_};
@@ -83,15 +81,6 @@ pub(crate) fn write(
     ensures { λ _. ⌜ now (out .exit) ≡ octetsOf header ++ chainOctets (answerFields (now (request .entry)) (now (filter .entry)) (now (information .entry))) ⌝ }
 {
     header::write(header, out);
-    let first = Cursor { at: 48 };
-    let at = fields::answers(
-        first,
-        request,
-        role::none_met(),
-        filter,
-        information,
-        out,
-        48,
-    );
+    let at = fields::answers(request, filter, information, out);
     fields::pad(out, at);
 }

@@ -12,12 +12,9 @@ use Rattle.responder.proofs.reply.write.Tie as tie
 write-requires : tie.Need-write-requires
 write-requires c κs = search needs
 
-none-met-requires : tie.Need-none-met-requires
-none-met-requires c κs = search needs
-
 answers-requires : tie.Need-answers-requires
 answers-requires c κs =
-    let start = c .before .before .before .before .before .before .before .before .before .before in
+    let start = c .before .before .before .before .before .before .before .before .before in
     let size = request-size (start .args .request .now) (start .pre .0) in
     search needs
 
@@ -31,13 +28,13 @@ put c =
 pad-requires : tie.Need-pad-requires
 pad-requires c κs =
     let at-answers = c .before .before .before in
-    let at-write = at-answers .before .before .before .before .before in
+    let at-write = at-answers .before .before .before .before in
     let start = at-write .before .before .before .before .before .before in
     let a = start .args in
     let e = at-answers .answers .ensures in
     let size = request-size (a .request .now) (start .pre .0) in
-    let l = length-answered (a .header) (a .request .now) (a .filter .now) (a .information .now) (a .out .now) (start .pre .0) (start .pre .3) (put at-write) (rw (at-answers .before .before .none-met .ensures) at e .0) (e .1) in
-    let f = left-fours (a .header) (a .request .now) (a .filter .now) (a .information .now) (a .out .now) (start .pre .0) (start .pre .3) (put at-write) (rw (at-answers .before .before .none-met .ensures) at e .0) (e .1) in
+    let l = length-answered (a .header) (a .request .now) (a .filter .now) (a .information .now) (a .out .now) (start .pre .0) (start .pre .3) (put at-write) (e .0) (e .1) in
+    let f = left-fours (a .header) (a .request .now) (a .filter .now) (a .information .now) (a .out .now) (start .pre .0) (start .pre .3) (put at-write) (e .0) (e .1) in
     (omega arith, omega arith, rw l f)
 
 same-length : tie.Need-same-length
@@ -47,13 +44,13 @@ returns : tie.Need-returns
 returns c =
     let at-pad = c .before .before in
     let at-answers = at-pad .before .before .before .before in
-    let at-write = at-answers .before .before .before .before .before in
+    let at-write = at-answers .before .before .before .before in
     let start = at-write .before .before .before .before .before .before in
     let a = start .args in
     let e = at-answers .answers .ensures in
-    answer-put (a .header) (a .request .now) (a .filter .now) (a .information .now) (a .out .now) (start .pre .0) (start .pre .3) (put at-write) (rw (at-answers .before .before .none-met .ensures) at e .0) (e .1) (at-pad .pad .ensures)
+    answer-put (a .header) (a .request .now) (a .filter .now) (a .information .now) (a .out .now) (start .pre .0) (start .pre .3) (put at-write) (e .0) (e .1) (at-pad .pad .ensures)
 
 pub write-spec : {M : Type 1} → statement M
 write-spec =
     tie.close
-    (tie.spec write-requires none-met-requires answers-requires pad-requires same-length returns)
+    (tie.spec write-requires answers-requires pad-requires same-length returns)
