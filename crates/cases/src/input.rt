@@ -1,21 +1,9 @@
 // The input as lines: each is gathered octet by octet and run when it ends.
 use crate::calls;
 use crate::words;
-use text::find;
+use text::gather::Line;
+use text::gather::gather;
 use text::part;
-
-// The line that is being gathered: its number from 1 on, its length so far, whether its comment has begun, and
-// whether it has ended; how much of the input was read last, and how far it was gathered; and whether the input
-// has ended. The line's length may go past its buffer: it is then too long.
-struct Line {
-    number: u64,
-    length: usize,
-    comment: bool,
-    ended: bool,
-    count: usize,
-    at: usize,
-    last: bool,
-}
 
 // Reads more of the input if all that was read has been gathered. The end of the input ends a line.
 fn refill(file: i32, text: &mut [u8], state: Line) -> Line {
@@ -31,27 +19,6 @@ fn refill(file: i32, text: &mut [u8], state: Line) -> Line {
         count: count,
         at: 0,
         last: count == 0,
-    }
-}
-
-// Gathers what was read, up to the line's end or its comment. A piece that has no room counts, and is not kept.
-fn gather(text: &[u8], state: Line, line: &mut [u8]) -> Line {
-    let end = find(text, state.at, b'\n', true);
-    let stop = find(part(text, 0, end), state.at, b'#', true);
-    let n = if state.comment {
-        0
-    } else {
-        std::num::wrapping_sub_usize(stop, state.at)
-    };
-    octets::part::copy(line, state.length, text, state.at, n);
-    Line {
-        number: state.number,
-        length: std::num::wrapping_add_usize(state.length, n),
-        comment: state.comment | (stop < end),
-        ended: state.ended | (end < text.len()),
-        count: state.count,
-        at: end + 1,
-        last: state.last,
     }
 }
 

@@ -1,3 +1,4 @@
+pub mod Gathering
 pub mod Laying
 pub mod Numerals
 pub mod OctetWords
