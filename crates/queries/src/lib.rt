@@ -1,6 +1,6 @@
 // The calls of a case file that change nothing that they are lent: all but those that change the client's table. Each
-// prints its result line; the lines of the others' answers are here too. As in `print`, what it prints is outside the logic, so that a contract says all that is left:
-// a call returns nothing and leaves every octet as it was.
+// prints its result line; the lines of the others' answers are here too. As in `print`, what is printed is outside the
+// logic, so that a contract says all that is left: a call returns nothing and leaves every octet as it was.
 pub mod answers;
 mod outputs;
 mod views;
