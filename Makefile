@@ -1,8 +1,9 @@
 # make test: the gate.   make demo: the case program on its stored cases.
 # make lib: the C library, target/staticlib/libntp5.a; include/ntp5.h declares it.
 # make example: a main loop in C on the library.   make host: the library's tests from Rust.
+# make bench: instructions and times of each call, beside the host's own implementation; docs/PERFORMANCE.md has the figures.
 # make soak COUNT=n SEED=s: as many random calls as one likes, against the host's own implementation.
-.PHONY: test demo lib example host soak
+.PHONY: test demo lib example host soak bench
 COUNT = 10000000
 SEED =
 
@@ -22,4 +23,7 @@ host: lib
 	@tools/host
 
 soak: lib
-	@cd host && cargo run --offline --release --quiet --bin soak -- $(COUNT) $(SEED)
+	@cd host && cargo run --offline --release --quiet --package compare --bin soak -- $(COUNT) $(SEED)
+
+bench: lib
+	@cd host && cargo run --offline --release --quiet --package compare --bin bench
