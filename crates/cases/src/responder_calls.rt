@@ -1,7 +1,6 @@
 // The responder's calls, on the one store of the case file. `kept` is its length, two octets, and then its octets.
 use octets::number;
 use octets::part;
-use print::convert::from_u16;
 use text::line::u8_at;
 use text::octet_word::lay;
 use text::piece;
@@ -45,28 +44,37 @@ fn answer_into(
     store: &mut [u8],
 ) {
     let answered = actions::answer(line, request, filter, information, output, store);
-    match answered {
-        responder::Answered::Refused(number) => print::result(row, number, row),
-        responder::Answered::Written(length) => print::line(row, &[0, from_u16(length), 0], output),
-    }
+    queries::answers::answered(row, answered, output);
 }
 
-fn answer_from(row: &[u8], line: &[u8], request: &[u8], filter: &[u8], store: &mut [u8]) {
-    let mut information = io::buffer();
+// Each octet word of an answer has a buffer, and each buffer a function: more of them in one make its check dear.
+fn answer_out(
+    row: &[u8],
+    line: &[u8],
+    request: &[u8],
+    filter: &[u8],
+    information: &[u8],
+    store: &mut [u8],
+) {
     let mut output = io::buffer();
-    let told = lay(piece(line, 15, b' '), &mut information);
     let laid = lay(piece(line, 16, b' '), &mut output);
-    let m = (told.value % 4097) as usize;
     let n = (laid.value % 4097) as usize;
     answer_into(
         row,
         line,
         request,
         filter,
-        &information[0..m],
+        information,
         &mut output[0..n],
         store,
     );
+}
+
+fn answer_from(row: &[u8], line: &[u8], request: &[u8], filter: &[u8], store: &mut [u8]) {
+    let mut information = io::buffer();
+    let laid = lay(piece(line, 15, b' '), &mut information);
+    let n = (laid.value % 4097) as usize;
+    answer_out(row, line, request, filter, &information[0..n], store);
 }
 
 // answer REQUEST RECEIVE ESTIMATE FRESH, the server's values, FILTER INFORMATION OUTPUT

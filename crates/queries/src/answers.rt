@@ -31,3 +31,13 @@ pub fn received(row: &[u8], received: client::Received, datagram: &[u8])
         ),
     }
 }
+
+// answer
+pub fn answered(row: &[u8], answered: responder::Answered, output: &[u8])
+    ensures { λ r. ⌜ r ≡ tt ⌝ }
+{
+    match answered {
+        responder::Answered::Refused(number) => print::result(row, number, row),
+        responder::Answered::Written(length) => print::line(row, &[0, from_u16(length), 0], output),
+    }
+}
