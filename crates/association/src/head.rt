@@ -143,8 +143,8 @@ fn put_four(octets: &mut [u8], at: usize, a: u64, b: u64, c: u64, d: u64)
     let second = at + 8;
     let third = second + 8;
     let fourth = third + 8;
-    number::put64(octets, at, a);
-    number::put64(octets, second, b);
-    number::put64(octets, third, c);
-    number::put64(octets, fourth, d);
+    number::update64(octets, at, a);
+    number::update64(octets, second, b);
+    number::update64(octets, third, c);
+    number::update64(octets, fourth, d);
 }

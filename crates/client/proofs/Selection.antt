@@ -1,6 +1,6 @@
 -- The selected associations, one after another, as a loop passes them. Assumes nothing.
 use mathlib.Core.Path.{_≡_, refl, sym, ap, _∙_}
-use mathlib.Core.Bool.{Bool, true, false, cond, not, _&&_, _||_}
+use mathlib.Core.Bool.{Bool, true, false, cond, _&&_}
 use mathlib.Core.List.{List}
 use Prim.Native.Nat.{ℕ, suc, _+_, _-_, _/_, _%_, _^_, _<_, _≤_}
 use native.Mathlib.Numerals.{add-one}
@@ -41,14 +41,18 @@ all-done test see selected = refl
 abbrev pub Left : (Seen → Bool) → (ℕ → Seen) → (selected : ℕ) (sofar : Bool) (a : ℕ) → Type 0
 Left test see selected sofar a = sofar && allSelected test see selected (16 - a) a ≡ allSelected test see selected 16 0
 
-pub left-next : (test : Seen → Bool) (see : ℕ → Seen) (selected a : ℕ) (sofar picked told : Bool) → a < 16 → bit a selected ≡ picked → test (see a) ≡ told → Left test see selected sofar a
-    → Left test see selected (sofar && (not picked || told)) (a + 1)
-left-next test see selected a sofar picked told h b t l = go sofar picked told _ ∙ ap (λ (x : Bool). sofar && x) (sym (all-next see selected a h test ∙ rw (b, t))) ∙ l
-  where
-    go : (s p t r : Bool) → (s && (not p || t)) && r ≡ s && (cond p t true && r)
-    go true true t r = refl
-    go true false t r = refl
-    go false p t r = refl
+module _ (test : Seen → Bool) (see : ℕ → Seen) (selected a : ℕ) (sofar : Bool) (h : a < 16) (l : Left test see selected sofar a) where
+  -- a is selected, and its test is told
+  pub left-told : (told next : Bool) → bit a selected ≡ true → test (see a) ≡ told → next ≡ sofar && told → Left test see selected next (a + 1)
+  left-told told next b t e = rw e (go sofar told _ ∙ ap (λ (x : Bool). sofar && x) (sym (all-next see selected a h test ∙ rw (b, t))) ∙ l)
+    where
+      go : (s t r : Bool) → (s && t) && r ≡ s && (t && r)
+      go true t r = refl
+      go false t r = refl
+
+  -- a is not selected
+  pub left-passed : (next : Bool) → bit a selected ≡ false → next ≡ sofar → Left test see selected next (a + 1)
+  left-passed next b e = rw e (ap (λ (x : Bool). sofar && x) (sym (all-next see selected a h test ∙ rw b)) ∙ l)
 
 pub left-end : (test : Seen → Bool) (see : ℕ → Seen) (selected a : ℕ) (sofar : Bool) → 16 ≤ a → a ≤ 16 → Left test see selected sofar a → sofar ≡ allSelected test see selected 16 0
 left-end test see selected a sofar h k l =

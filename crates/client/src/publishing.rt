@@ -20,10 +20,12 @@ pub(crate) fn check(table: &[u8], selected: u16) -> u8
     let mut rest = selected;
     let mut a: u8 = 0;
     while a < 16 {
-        let reply = table::look(table, a);
-        let skipped = rest % 2 != 1;
-        in_range = in_range & (skipped | (reply.refusal != 6));
-        complete = complete & (skipped | (reply.refusal == 0) & reply.complete);
+        let named = rest % 2 == 1;
+        if named {
+            let reply = table::look(table, a);
+            in_range = in_range & (reply.refusal != 6);
+            complete = complete & ((reply.refusal == 0) & reply.complete);
+        }
         rest = rest / 2;
         a += 1;
     }

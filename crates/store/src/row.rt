@@ -18,12 +18,10 @@ pub fn find(store: &[u8], cookie: ServerCookie) -> usize
 
 // The same of the records from a place on.
 pub(crate) fn find_from(store: &[u8], from: usize, cookie: u64) -> usize
-    requires { ⌜ (from % 16 ≡ 0) × (from ≤ length (now store)) ⌝ }
     ensures { λ r. ⌜ r ≡ from + 16 * indexOf cookie (recordsFrom ((length (now (store .entry)) - from) / 16) (now (store .entry)) from) ⌝ }
 {
-    let end = store.len() / 16 * 16;
     let mut at = from;
-    while at < end {
+    while part::has_room(store, at, 16) {
         if number::get64(store, at) == cookie {
             return at;
         }

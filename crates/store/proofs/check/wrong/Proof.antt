@@ -51,7 +51,7 @@ add-find-from : tie.Need-add-find-from Inv-loop μ-loop
 add-find-from c = omega arith
 
 find-from-requires : tie.Need-find-from-requires Inv-loop μ-loop
-find-from-requires c κs = (omega arith, omega arith)
+find-from-requires c κs = search needs
 
 returns-3 : tie.Need-returns-3 Inv-loop μ-loop
 returns-3 c =

@@ -1,59 +1,65 @@
 -- `find_from` meets its contract: the place looked for from `at` on is the one looked for from the start on. Assumes nothing.
 use mathlib.Core.Path.{_≡_, refl, sym, _∙_}
-use Prim.Native.Nat.{_+_, _-_, _%_, _≤_}
+use Prim.Native.Nat.{_+_, _-_, _≤_}
 use native.Mathlib.Omega.{arith}
 use lib.ListN.{length}
 use borrow.Author.Needs.{needs}
+use borrow.Author.Tests.{leb-false}
 use Rattle.octets.specs.Number.{num}
 use Rattle.octets.proofs.Numbers.{got}
+use Rattle.octets.proofs.Parts.{room}
 use Rattle.store.proofs.Walks.{placeFrom, place-here, place-next, place-end}
 use Rattle.store.proofs.row.find_from.Statement.{statement}
 use Rattle.store.proofs.row.find_from.Tie as tie
 
 abbrev Inv-loop : tie.InvT-loop
-Inv-loop store from cookie end at₀ at = (at % 16 ≡ 0) × (at ≤ length store) × (placeFrom store cookie from ≡ placeFrom store cookie at)
+Inv-loop store from cookie at₀ at = placeFrom store cookie from ≡ placeFrom store cookie at
 
 abbrev μ-loop : tie.MeasureT-loop
-μ-loop store from cookie end at₀ at = end - at
-
-mul-end : tie.Need-mul-end Inv-loop μ-loop
-mul-end c = omega arith
+μ-loop store from cookie at₀ at = length store - at
 
 loop-holds : tie.Need-loop-holds Inv-loop μ-loop
-loop-holds c = (omega arith, omega arith, refl)
+loop-holds c = refl
+
+has-room-requires : tie.Need-has-room-requires Inv-loop μ-loop
+has-room-requires c κs = search needs
 
 get64-requires : tie.Need-get64-requires Inv-loop μ-loop
 get64-requires c κs = search needs
 
+-- a turn has a whole record
+whole : (c : tie.Then1 Inv-loop μ-loop) → c .before .before .loop .at + 16 ≤ length (c .before .before .before .before .args .store .now)
+whole c = room _ _ (c .before .has-room .ensures) (c .if1 .taken)
+
 returns : tie.Need-returns Inv-loop μ-loop
 returns c =
-    let l = c .before .before .before .loop in
-    let a = c .before .before .before .before .before .args in
+    let l = c .before .before .before .before .loop in
+    let a = c .before .before .before .before .before .before .args in
     let s = a .store .now in
-    let h : l .at + 16 ≤ length s = omega arith in
-    let e : num s (l .at) 8 ≡ a .cookie = sym (got s (l .at) 8 _ (omega arith) (c .before .get64 .ensures)) ∙ c .if1 .taken in
-    sym (l .inv .2 ∙ place-here s (a .cookie) (l .at) h e)
+    let h = whole (c .before .before) in
+    let e : num s (l .at) 8 ≡ a .cookie = sym (got s (l .at) 8 _ (omega (arith, h)) (c .before .get64 .ensures)) ∙ c .if2 .taken in
+    sym (l .inv ∙ place-here s (a .cookie) (l .at) h e)
 
 add-at : tie.Need-add-at Inv-loop μ-loop
-add-at c = omega arith
+add-at c = omega (arith, whole (c .before .before))
 
 loop-less : tie.Need-loop-less Inv-loop μ-loop
-loop-less c = omega arith
+loop-less c = omega (arith, whole (c .before .before))
 
 loop-again : tie.Need-loop-again Inv-loop μ-loop
 loop-again c =
-    let l = c .before .before .before .loop in
-    let a = c .before .before .before .before .before .args in
+    let l = c .before .before .before .before .loop in
+    let a = c .before .before .before .before .before .before .args in
     let s = a .store .now in
-    let h : l .at + 16 ≤ length s = omega arith in
-    let g = got s (l .at) 8 _ (omega arith) (c .before .get64 .ensures) in
-    (omega arith, h, l .inv .2 ∙ place-next s (a .cookie) (l .at) h (λ e. c .if1 .left (g ∙ e)))
+    let h = whole (c .before .before) in
+    let g = got s (l .at) 8 _ (omega (arith, h)) (c .before .get64 .ensures) in
+    l .inv ∙ place-next s (a .cookie) (l .at) h (λ e. c .if2 .left (g ∙ e))
 
 returns-2 : tie.Need-returns-2 Inv-loop μ-loop
 returns-2 c =
-    let l = c .before .loop in
-    let a = c .before .before .before .args in
-    sym (l .inv .2 ∙ place-end (a .store .now) (a .cookie) (l .at) (omega arith))
+    let l = c .before .before .loop in
+    let a = c .before .before .before .before .args in
+    sym (l .inv ∙ place-end (a .store .now) (a .cookie) (l .at) (leb-false _ _ (sym (c .before .has-room .ensures) ∙ c .if1 .left)))
 
 pub find-from-spec : {M : Type 1} → statement M
 find-from-spec =
@@ -61,8 +67,8 @@ find-from-spec =
     (tie.spec
     Inv-loop
     μ-loop
-    mul-end
     loop-holds
+    has-room-requires
     get64-requires
     returns
     add-at
