@@ -8,10 +8,10 @@ use native.Mathlib.Omega.{arith}
 use lib.Dec.{eqb}
 use lib.ListN.{length}
 use lib.Pow.{shr-shr}
-use Rattle.filter.specs.Filter.{union}
+use Rattle.filter.specs.Filter.{union, ofId}
 use Rattle.filter.proofs.Uniting.{length-union}
 use Rattle.client.specs.Call.{bit}
-use Rattle.client.specs.Select.{Seen, allSelected, inRangeSeen, completeSeen, joined}
+use Rattle.client.specs.Select.{Seen, allSelected, inRangeSeen, completeSeen, joined, publishedFilter}
 use Rattle.client.specs.Answers.{selectionRefusal}
 
 -- the bit of an association, once those before it were shifted out
@@ -67,6 +67,11 @@ left-end test see selected a sofar h k l =
 pub join-end : (see : ℕ → Seen) (selected a : ℕ) (f : List ℕ) → a ≡ 16 → joined see f selected (16 - a) a ≡ f
 unfolding joined
 join-end see selected a f e = rw e
+
+-- none selected: the own ID alone
+pub none-selected : (see : ℕ → Seen) (id : List ℕ) → publishedFilter see 0 id ≡ ofId id
+unfolding joined
+none-selected see id = refl
 
 pub kept : (picked : Bool) (f g : List ℕ) → length (cond picked (union f g) f) ≡ length f
 kept true f g = length-union f g

@@ -1,7 +1,7 @@
 -- A table's octets, record by record. Assumes nothing.
 use mathlib.Core.Path.{_≡_, refl, ap, _∙_}
 use mathlib.Core.List.{List, [], _∷_, _++_, append-assoc}
-use Prim.Native.Nat.{ℕ, zero, suc, _+_, _*_, _<_}
+use Prim.Native.Nat.{ℕ, zero, suc, _+_, _*_, _<_, _≤_}
 use native.Mathlib.Omega.{arith}
 use lib.ListN.{length, take, drop, getD, set, length-set, length-append, replicate, replicate-append-replicate}
 use lib.Seq.{take-at, drop-at, take-append-add, drop-append-add}
@@ -14,6 +14,10 @@ use Rattle.association.proofs.Reached.{GoodPlace}
 use Rattle.association.proofs.Encoding.{length-encode}
 use Rattle.client.specs.Octets.{part, putPart, tableOctets}
 use Rattle.client.specs.Plain.{closedTable, encodeAll}
+
+-- at most 16 KiB
+pub table-bound : tableOctets ≤ 16384
+table-bound = omega arith
 
 abbrev pub AllGood : List Place → Type 0
 AllGood [] = Unit {0}
