@@ -10,7 +10,8 @@ use lib.IntN.{ℤ}
 use lib.ListN.{length, drop, replicate, length-replicate, drop-of-length-le}
 use Rattle.octets.specs.Part.{zeroAt, copyAt}
 use Rattle.octets.proofs.Parts.{overwritten, pasted}
-use Rattle.filter.specs.Filter.{containsAll}
+use Rattle.filter.specs.Calls.{addId}
+use Rattle.filter.specs.Filter.{addAll, containsAll}
 use Rattle.filter.specs.Positions.{positions}
 use Rattle.exchange.specs.Request.{requestWritten}
 use Rattle.association.specs.declared.event.Reply.{Reply}
@@ -73,6 +74,10 @@ module _ (id : List ℕ) (s : Seen) where
 
         pub verdict-clear : containsAll (s .filter) (positions id) ≡ false → verdictAnswer 3 ≡ verdictFor id s
         verdict-clear c = rw (eq-eqb (length id) 15 size, eq-eqb (s .refusal) 0 z, k, c)
+
+-- an ID added to a filter, both of the right size
+pub own-added : (f id g : List ℕ) (n : ℕ) → length f ≡ 512 → length id ≡ 15 → (n, g) ≡ addId f id → g ≡ addAll f (positions id)
+own-added f id g n hf hi e = ap (λ (p : ℕ × List ℕ). p .1) e ∙ rw (eq-eqb _ _ hf, eq-eqb _ _ hi)
 
 -- a filter copied over the first 512 octets
 pub over-first : (out xs ys : List ℕ) → xs ≡ ys → length xs ≡ 512 → 512 ≤ length out → copyAt out 0 xs 0 512 ≡ ys ++ drop 512 out

@@ -191,6 +191,6 @@ pub fn publish(table: &[u8], selected: u16, id: &[u8], out: &mut [u8]) -> Publis
     if out.len() < 512 {
         return Published::Refused(11);
     }
-    publishing::write(table, selected, filter::id_of(id), out);
+    publishing::write(table, selected, id, out);
     Published::Written
 }

@@ -59,11 +59,11 @@ fn join(table: &[u8], selected: u16) -> [u8; 512]
 }
 
 // The published filter goes to the first 512 octets of `out`.
-pub(crate) fn write(table: &[u8], selected: u16, id: [u8; 15], out: &mut [u8])
-    requires { ⌜ (length (now table) ≡ tableOctets) × (512 ≤ length (now out)) ⌝ }
-    ensures { λ _. ⌜ now (out .exit) ≡ publishedFilter (seenOctets (now (table .entry))) selected id ++ drop 512 (now (out .entry)) ⌝ }
+pub(crate) fn write(table: &[u8], selected: u16, id: &[u8], out: &mut [u8])
+    requires { ⌜ (length (now table) ≡ tableOctets) × (length (now id) ≡ 15) × (512 ≤ length (now out)) ⌝ }
+    ensures { λ _. ⌜ now (out .exit) ≡ publishedFilter (seenOctets (now (table .entry))) selected (now (id .entry)) ++ drop 512 (now (out .entry)) ⌝ }
 {
     let mut published = join(table, selected);
-    filter::add(&mut published, filter::positions(id));
+    filter::add_id(&mut published, id);
     part::copy(out, 0, &published, 0, 512);
 }

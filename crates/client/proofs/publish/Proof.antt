@@ -1,12 +1,8 @@
 -- `publish` meets its contract: the tests say which answer it is. Assumes nothing.
 use mathlib.Core.Path.{ap, _∙_}
-use mathlib.Core.List.{List, _++_}
+use mathlib.Core.List.{List}
 use Prim.Native.Nat.{ℕ}
-use lib.ListN.{drop}
-use Rattle.filter.proofs.Digits.{idOf-whole}
 use Rattle.client.specs.Call.{Answer, writtenAnswer}
-use Rattle.client.specs.Octets.{seenOctets}
-use Rattle.client.specs.Select.{publishedFilter}
 use Rattle.client.proofs.Returned.{publish-size, publish-id, publish-selection, publish-short, publish-written}
 use borrow.Author.Needs.{needs}
 use Rattle.client.proofs.publish.Statement.{statement}
@@ -39,9 +35,6 @@ returns-4 c =
     ap (λ (w : Answer). (w, a .table .now))
     (publish-short (a .selected) (a .id .now) (a .out .now) (a .table .now) (check .before .before .if1 .left) (check .before .if2 .left) _ (check .check .ensures) (c .before .if3 .left) (c .if4 .taken))
 
-id-of-requires : tie.Need-id-of-requires
-id-of-requires c κs = search needs
-
 write-requires : tie.Need-write-requires
 write-requires c κs = search needs
 
@@ -51,13 +44,11 @@ same-length c = search needs
 returns-5 : tie.Need-returns-5
 returns-5 c =
     let write = c .before .before in
-    let id = write .before .before in
-    let check = id .before .before .before in
+    let check = write .before .before .before .before in
     let a = check .before .before .before .before .before .before .args in
-    let own = id .id-of .ensures ∙ idOf-whole (a .id .now) (check .before .if2 .left) in
-    ap (λ (w : List ℕ). (writtenAnswer 512 w, a .table .now)) (write .write .ensures ∙ ap (λ (x : List ℕ). publishedFilter (seenOctets (a .table .now)) (a .selected) x ++ drop 512 (a .out .now)) own)
+    ap (λ (w : List ℕ). (writtenAnswer 512 w, a .table .now)) (write .write .ensures)
     ∙ ap (λ (w : Answer). (w, a .table .now))
-    (publish-written (a .selected) (a .id .now) (a .out .now) (a .table .now) (check .before .before .if1 .left) (check .before .if2 .left) _ (check .check .ensures) (id .before .before .if3 .left) (id .before .if4 .left))
+    (publish-written (a .selected) (a .id .now) (a .out .now) (a .table .now) (check .before .before .if1 .left) (check .before .if2 .left) _ (check .check .ensures) (write .before .before .before .if3 .left) (write .before .before .if4 .left))
 
 pub publish-spec : {M : Type 1} → statement M
 publish-spec =
@@ -68,7 +59,6 @@ publish-spec =
     check-requires
     returns-3
     returns-4
-    id-of-requires
     write-requires
     same-length
     returns-5)
