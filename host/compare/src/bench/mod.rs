@@ -1,8 +1,8 @@
 //! What a call costs in the library and in the reference, in instructions and in time.
 //!
-//! Each case is made on three sides. The rival is the reference's plain table and
-//! store; the reference on lent octets does all that the library does, with the
-//! same tests of what was lent.
+//! Each case is made on three sides. The rival is the reference on lent octets, which
+//! does all that the library does, with the same tests of what was lent; beside it
+//! stands the reference on its plain table and store, which trusts what it keeps.
 
 pub mod cases;
 pub mod cost;
