@@ -12,7 +12,7 @@ use lib.Dec.{eqb, ltb}
 use lib.ListN.{length, drop, replicate, length-take, length-drop}
 use lib.Seq.{paste, length-paste}
 use Rattle.association.specs.Rules.{offered, advanced}
-use Rattle.association.specs.Plain.{Outstanding, Exchange, Opened, Place, closed, opened, fresh, polled, reported, received, exchangeOf, chunkOf, placeDo, onRequest, sentCookie, isLast}
+use Rattle.association.specs.Plain.{Outstanding, Exchange, Opened, Place, closed, opened, fresh, exchanged, polled, reported, received, exchangeOf, chunkOf, placeDo, onRequest, sentCookie, isLast}
 use Rattle.exchange.specs.Judging.{outcomeOf}
 use Rattle.exchange.specs.declared.response.Response.{Response}
 use Rattle.association.specs.declared.event.Event.{Event}
@@ -110,9 +110,10 @@ good-fresh timescale c t f =
       saved = tt;
     }
 
-good-polled : (cookie : ℕ) (interleaved : Bool) (o : Opened) → cookie < 2 ^ 64 → eqb cookie 0 || isLast cookie (o .last) ≡ false
-    → GoodOpened o → GoodOpened (polled cookie interleaved o)
-good-polled cookie interleaved o h f g = record {
+-- another exchange keeps what concerns the filter
+good-exchanged : (o : Opened) (last : Option ℕ) (q : Option Outstanding) (v : Option Exchange) → GoodOpened o
+    → GoodCookie last → GoodOutstanding (exchanged o last q v) q → GoodSaved v → GoodOpened (exchanged o last q v)
+good-exchanged o last q v g l k s = record {
   timescale = g .timescale;
   offers = g .offers;
   next = g .next;
@@ -120,16 +121,23 @@ good-polled cookie interleaved o h f g = record {
   count = g .count;
   flags = g .flags;
   run = g .run;
-  last = (λ e. or-left (eqb cookie 0) (isLast cookie (o .last)) f (eq-eqb cookie 0 e), h);
-  outstanding = record {
-    last = refl;
-    server = sent-fits interleaved (o .saved) (g .saved);
-    offset = refl;
-    t1 = omega arith;
-    saved = sent-saved interleaved (o .saved);
-  };
-  saved = g .saved;
+  last = l;
+  outstanding = k;
+  saved = s;
 }
+
+good-polled : (cookie : ℕ) (interleaved : Bool) (o : Opened) → cookie < 2 ^ 64 → eqb cookie 0 || isLast cookie (o .last) ≡ false
+    → GoodOpened o → GoodOpened (polled cookie interleaved o)
+good-polled cookie interleaved o h f g =
+    good-exchanged o _ _ _ g (λ e. or-left (eqb cookie 0) (isLast cookie (o .last)) f (eq-eqb cookie 0 e), h)
+    (record {
+      last = refl;
+      server = sent-fits interleaved (o .saved) (g .saved);
+      offset = refl;
+      t1 = omega arith;
+      saved = sent-saved interleaved (o .saved);
+    })
+    (g .saved)
   where
     or-left : (a b : Bool) → a || b ≡ false → a ≡ true → ⊥
     or-left a b e t = let z : _≡_ {A = ℕ} 0 1 = cc in omega arith
@@ -145,18 +153,8 @@ good-polled cookie interleaved o h f g = record {
     sent-saved false v = inl refl
 
 good-reported : (t1 : ℕ) (o : Opened) (q : Outstanding) → t1 < 2 ^ 64 → GoodRequest o q → GoodOpened o → GoodOpened (reported t1 o q)
-good-reported t1 o q h k g = record {
-  timescale = g .timescale;
-  offers = g .offers;
-  next = g .next;
-  filter = g .filter;
-  count = g .count;
-  flags = g .flags;
-  run = g .run;
-  last = g .last;
-  outstanding = record { last = k .last; server = k .server; offset = k .offset; t1 = h; saved = k .saved };
-  saved = g .saved;
-}
+good-reported t1 o q h k g =
+    good-exchanged o _ _ _ g (g .last) (record { last = k .last; server = k .server; offset = k .offset; t1 = h; saved = k .saved }) (g .saved)
 
 -- the next offset after a chunk, and which octets were taken then
 pub record Onward (o : Opened) (g : GoodOpened o) : Type 0 where
@@ -258,18 +256,7 @@ good-received r datagram o q h z k g = by-test GoodOpened (eqb (outcomeOf r (o .
       outstanding = tt;
       saved = good-exchange r datagram (q .t1) h z (k .t1);
     })
-    (λ t. record {
-      timescale = g .timescale;
-      offers = g .offers;
-      next = g .next;
-      filter = g .filter;
-      count = g .count;
-      flags = g .flags;
-      run = g .run;
-      last = g .last;
-      outstanding = tt;
-      saved = good-exchange r datagram (q .t1) h z (k .t1);
-    })
+    (λ t. good-exchanged o _ _ _ g (g .last) tt (good-exchange r datagram (q .t1) h z (k .t1)))
 
 -- by the outstanding request, or its absence
 pub by-request : (P : Reply × Place → Type 0) (q : Option Outstanding) {absent : Reply × Place} (f : Outstanding → Reply × Place)

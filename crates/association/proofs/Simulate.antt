@@ -19,7 +19,7 @@ use Rattle.association.specs.Rules.{offered, advanced, plainReply, recei
 use Rattle.association.specs.Record.{octetsOf, inRange, chunkOffset, requestAbsent, savedInRange}
 use Rattle.association.specs.Step.{refuse, done, openedHead, polledHead, sentHeadOf, usedHead, replyTo, acceptedHead, openHead, closeHead, pollHead, sentHead, receiveHead, lookHead, changeOf, laid, onOctets, takenAfter}
 use Rattle.association.specs.Plain.{Outstanding, Exchange, Opened, Place, closed, opened, fresh, polled, reported, received, chunkOf, previous, replyOf, allTaken, placeDo, refuseAt, onRequest, isLast, sentCookie, savedServer}
-use Rattle.association.specs.Encode.{countTaken, cookieOf, outstandingOf, requestOf, savedOf, placeHead, placeFilter, encode}
+use Rattle.association.specs.Encode.{countTaken, cookieOf, outstandingOf, requestOf, savedOf, headWith, placeHead, placeFilter, encode}
 use Rattle.association.specs.declared.event.Event.{Event}
 use Rattle.association.specs.declared.event.Event.the-variants.{Open, Close, Poll, Sent, Receive, Look}
 use Rattle.association.specs.declared.event.Reply.{Reply}
@@ -149,20 +149,6 @@ module _ (datagram : List ℕ) where
       (λ t. both (ltb room (84 + o .chunk)) (laidOn (opened o)) encoded (λ u. refl)
       (λ u. rw (saved-server (o .saved), filter-encode (opened o))
       (stored _ (polledHead cookie (sentCookie interleaved (o .saved)) (placeHead (opened o))) (o .filter) (opened (polled cookie interleaved o)) refl refl))))
-
-  -- the head of an open place with another outstanding request, or none
-  abbrev headWith : Opened → Option Outstanding → Head
-  headWith o q = record {
-    state = 1;
-    timescale = o .timescale;
-    chunk = o .chunk;
-    next = o .next;
-    taken = countTaken (o .taken);
-    last = record { 0 = cookieOf (o .last) };
-    outstanding = outstandingOf q;
-    request = requestOf q;
-    saved = savedOf (o .saved);
-  }
 
   abbrev laidWith : Opened → Option Outstanding → Change → Reply × List ℕ
   laidWith o q d = laid d (headWith o q) datagram (encode (opened o))

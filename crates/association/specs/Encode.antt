@@ -5,7 +5,7 @@ use mathlib.Core.Option.{Option, none, some}
 use Prim.Native.Nat.{ℕ, _+_}
 use lib.ListN.{replicate}
 use Rattle.association.specs.Record.{octetsOf, closedHead, noRequest, noneSaved}
-use Rattle.association.specs.Plain.{Outstanding, Exchange, Place, closed, opened}
+use Rattle.association.specs.Plain.{Outstanding, Exchange, Opened, Place, closed, opened}
 use Rattle.association.specs.declared.head.Request.{Request}
 use Rattle.association.specs.declared.head.Saved.{Saved}
 use Rattle.association.specs.declared.head.Head.{Head}
@@ -38,19 +38,23 @@ savedOf (some v) = record {
   server = record { 0 = v .server };
 }
 
-abbrev pub placeHead : Place → Head
-placeHead closed = closedHead
-placeHead (opened o) = record {
+-- an open place, with an outstanding request or none
+abbrev pub headWith : Opened → Option Outstanding → Head
+headWith o q = record {
   state = 1;
   timescale = o .timescale;
   chunk = o .chunk;
   next = o .next;
   taken = countTaken (o .taken);
   last = record { 0 = cookieOf (o .last) };
-  outstanding = outstandingOf (o .outstanding);
-  request = requestOf (o .outstanding);
+  outstanding = outstandingOf q;
+  request = requestOf q;
   saved = savedOf (o .saved);
 }
+
+abbrev pub placeHead : Place → Head
+placeHead closed = closedHead
+placeHead (opened o) = headWith o (o .outstanding)
 
 abbrev pub placeFilter : Place → List ℕ
 placeFilter closed = replicate 512 0

@@ -69,30 +69,27 @@ savedServer (some v) = v .server
 abbrev pub sentCookie : Bool → Option Exchange → ℕ
 sentCookie interleaved v = cond interleaved (savedServer v) 0
 
-abbrev pub polled : ℕ → Bool → Opened → Opened
-polled cookie interleaved o = record {
+-- another last request's cookie, outstanding request and saved exchange; the filter stays
+abbrev pub exchanged : Opened → Option ℕ → Option Outstanding → Option Exchange → Opened
+exchanged o last outstanding saved = record {
   timescale = o .timescale;
   chunk = o .chunk;
   next = o .next;
   filter = o .filter;
   taken = o .taken;
-  last = some cookie;
-  outstanding = some (record { client = cookie; server = sentCookie interleaved (o .saved); offset = o .next; t1 = 0 });
-  saved = o .saved;
+  last = last;
+  outstanding = outstanding;
+  saved = saved;
 }
+
+abbrev pub polled : ℕ → Bool → Opened → Opened
+polled cookie interleaved o =
+    exchanged o (some cookie) (some (record { client = cookie; server = sentCookie interleaved (o .saved); offset = o .next; t1 = 0 })) (o .saved)
 
 -- T1 is reported once for the outstanding request
 abbrev pub reported : ℕ → Opened → Outstanding → Opened
-reported t1 o q = record {
-  timescale = o .timescale;
-  chunk = o .chunk;
-  next = o .next;
-  filter = o .filter;
-  taken = o .taken;
-  last = o .last;
-  outstanding = some (record { client = q .client; server = q .server; offset = q .offset; t1 = t1 });
-  saved = o .saved;
-}
+reported t1 o q =
+    exchanged o (o .last) (some (record { client = q .client; server = q .server; offset = q .offset; t1 = t1 })) (o .saved)
 
 -- the previous accepted exchange; zeros if there is none, which no request that sends a server cookie meets
 abbrev pub previous : Option Exchange → Exchange
@@ -128,16 +125,7 @@ received r datagram o q =
       outstanding = none;
       saved = some (exchangeOf r (q .t1));
     })
-    (record {
-      timescale = o .timescale;
-      chunk = o .chunk;
-      next = o .next;
-      filter = o .filter;
-      taken = o .taken;
-      last = o .last;
-      outstanding = none;
-      saved = some (exchangeOf r (q .t1));
-    })
+    (exchanged o (o .last) none (some (exchangeOf r (q .t1))))
 
 abbrev pub replyOf : Response → Opened → Outstanding → Reply
 replyOf r o q =

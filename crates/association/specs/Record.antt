@@ -68,11 +68,12 @@ noRequest = record { server = record { 0 = 0 }; offset = 0; t1 = 0 }
 abbrev pub noneSaved : Saved
 noneSaved = record { timescale = 0; t1 = 0; t2 = 0; t3 = 0; t4 = 0; server = record { 0 = 0 } }
 
-abbrev pub closedHead : Head
-closedHead = record {
-  state = 0;
-  timescale = 0;
-  chunk = 0;
+-- nothing polled, taken or saved yet
+abbrev pub emptyHead : (state timescale chunk : ℕ) → Head
+emptyHead state timescale c = record {
+  state = state;
+  timescale = timescale;
+  chunk = c;
   next = 0;
   taken = 0;
   last = record { 0 = 0 };
@@ -80,6 +81,9 @@ closedHead = record {
   request = noRequest;
   saved = noneSaved;
 }
+
+abbrev pub closedHead : Head
+closedHead = emptyHead 0 0 0
 
 abbrev pub requestAbsent : Request → Bool
 requestAbsent q = eqb (q .server .0) 0 && eqb (q .offset) 0 && eqb (q .t1) 0

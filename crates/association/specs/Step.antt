@@ -6,7 +6,7 @@ use lib.Dec.{eqb, ltb}
 use lib.ListN.{length, drop, replicate}
 use Rattle.octets.specs.Part.{copyAt}
 use Rattle.association.specs.Rules.{offered, advanced, plainReply, pollReply, receiveReply, lookReply}
-use Rattle.association.specs.Record.{headOf, octetsOf, headOctets, recordOctets, inRange, closedHead, noRequest, noneSaved}
+use Rattle.association.specs.Record.{headOf, octetsOf, headOctets, recordOctets, inRange, emptyHead, closedHead, noRequest}
 use Rattle.exchange.specs.Judging.{timesOf, judged, outcomeOf}
 use Rattle.exchange.specs.declared.response.Response.{Response}
 use Rattle.association.specs.declared.event.Event.{Event}
@@ -29,17 +29,7 @@ abbrev pub done : Head → Filling → Change
 done h f = change (plainReply 0) h f
 
 abbrev pub openedHead : (timescale chunk : ℕ) → Head
-openedHead timescale c = record {
-  state = 1;
-  timescale = timescale;
-  chunk = c;
-  next = 0;
-  taken = 0;
-  last = record { 0 = 0 };
-  outstanding = 0;
-  request = noRequest;
-  saved = noneSaved;
-}
+openedHead timescale c = emptyHead 1 timescale c
 
 unfoldable pub openHead : (timescale chunk : ℕ) → Head → Change
 openHead timescale c h =
