@@ -1,5 +1,6 @@
 // The store part of refusal 6.
 use crate::row;
+use header::ServerCookie;
 use octets::number;
 ghost use mathlib.Core.Path.{_≡_};
 ghost use Prim.Native.Nat.{_-_, _/_, _%_, _≤_};
@@ -43,7 +44,7 @@ pub fn wrong(store: &[u8]) -> bool
         if cookie == 0 {
             return !unused_from(store, at);
         }
-        if row::find_from(store, at + 16, cookie) < n {
+        if row::find_from(store, at + 16, ServerCookie(cookie)) < n {
             return true;
         }
         at += 16;

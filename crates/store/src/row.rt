@@ -13,16 +13,16 @@ ghost use Rattle.store.specs.Place.{indexOf, placeOf, removed, joinedOct
 pub fn find(store: &[u8], cookie: ServerCookie) -> usize
     ensures { λ r. ⌜ r ≡ placeOf (now (store .entry)) (cookie .0) ⌝ }
 {
-    find_from(store, 0, cookie.0)
+    find_from(store, 0, cookie)
 }
 
 // The same of the records from a place on.
-pub(crate) fn find_from(store: &[u8], from: usize, cookie: u64) -> usize
-    ensures { λ r. ⌜ r ≡ from + 16 * indexOf cookie (recordsFrom ((length (now (store .entry)) - from) / 16) (now (store .entry)) from) ⌝ }
+pub(crate) fn find_from(store: &[u8], from: usize, cookie: ServerCookie) -> usize
+    ensures { λ r. ⌜ r ≡ from + 16 * indexOf (cookie .0) (recordsFrom ((length (now (store .entry)) - from) / 16) (now (store .entry)) from) ⌝ }
 {
     let mut at = from;
     while part::has_room(store, at, 16) {
-        if number::get64(store, at) == cookie {
+        if number::get64(store, at) == cookie.0 {
             return at;
         }
         at += 16;

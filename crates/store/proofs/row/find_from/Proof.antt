@@ -13,7 +13,7 @@ use Rattle.store.proofs.row.find_from.Statement.{statement}
 use Rattle.store.proofs.row.find_from.Tie as tie
 
 abbrev Inv-loop : tie.InvT-loop
-Inv-loop store from cookie at₀ at = placeFrom store cookie from ≡ placeFrom store cookie at
+Inv-loop store from cookie at₀ at = placeFrom store (cookie .0) from ≡ placeFrom store (cookie .0) at
 
 abbrev μ-loop : tie.MeasureT-loop
 μ-loop store from cookie at₀ at = length store - at
@@ -33,33 +33,33 @@ whole c = room _ _ (c .before .has-room .ensures) (c .if1 .taken)
 
 returns : tie.Need-returns Inv-loop μ-loop
 returns c =
-    let l = c .before .before .before .before .loop in
-    let a = c .before .before .before .before .before .before .args in
+    let l = c .before .before .before .before .before .loop in
+    let a = c .before .before .before .before .before .before .before .args in
     let s = a .store .now in
-    let h = whole (c .before .before) in
-    let e : num s (l .at) 8 ≡ a .cookie = sym (got s (l .at) 8 _ (omega (arith, h)) (c .before .get64 .ensures)) ∙ c .if2 .taken in
-    sym (l .inv ∙ place-here s (a .cookie) (l .at) h e)
+    let h = whole (c .before .before .before) in
+    let e : num s (l .at) 8 ≡ a .cookie .0 = sym (got s (l .at) 8 _ (omega (arith, h)) (c .before .before .get64 .ensures)) ∙ c .if2 .taken in
+    sym (l .inv ∙ place-here s (a .cookie .0) (l .at) h e)
 
 add-at : tie.Need-add-at Inv-loop μ-loop
-add-at c = omega (arith, whole (c .before .before))
+add-at c = omega (arith, whole (c .before .before .before))
 
 loop-less : tie.Need-loop-less Inv-loop μ-loop
-loop-less c = omega (arith, whole (c .before .before))
+loop-less c = omega (arith, whole (c .before .before .before))
 
 loop-again : tie.Need-loop-again Inv-loop μ-loop
 loop-again c =
-    let l = c .before .before .before .before .loop in
-    let a = c .before .before .before .before .before .before .args in
+    let l = c .before .before .before .before .before .loop in
+    let a = c .before .before .before .before .before .before .before .args in
     let s = a .store .now in
-    let h = whole (c .before .before) in
-    let g = got s (l .at) 8 _ (omega (arith, h)) (c .before .get64 .ensures) in
-    l .inv ∙ place-next s (a .cookie) (l .at) h (λ e. c .if2 .left (g ∙ e))
+    let h = whole (c .before .before .before) in
+    let g = got s (l .at) 8 _ (omega (arith, h)) (c .before .before .get64 .ensures) in
+    l .inv ∙ place-next s (a .cookie .0) (l .at) h (λ e. c .if2 .left (g ∙ e))
 
 returns-2 : tie.Need-returns-2 Inv-loop μ-loop
 returns-2 c =
     let l = c .before .before .loop in
     let a = c .before .before .before .before .args in
-    sym (l .inv ∙ place-end (a .store .now) (a .cookie) (l .at) (leb-false _ _ (sym (c .before .has-room .ensures) ∙ c .if1 .left)))
+    sym (l .inv ∙ place-end (a .store .now) (a .cookie .0) (l .at) (leb-false _ _ (sym (c .before .has-room .ensures) ∙ c .if1 .left)))
 
 pub find-from-spec : {M : Type 1} → statement M
 find-from-spec =
