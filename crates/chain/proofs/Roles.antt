@@ -1,13 +1,13 @@
 -- Three flags tell what a responder has to know of the fields before, and what a role says of its field. Assumes nothing.
 use mathlib.Core.Path.{_≡_, refl, sym, ap, _∙_}
-use mathlib.Core.Bool.{Bool, true, false, cond, _&&_, _||_}
+use mathlib.Core.Bool.{Bool, true, false, cond, _&&_, _||_, false≢true}
 use mathlib.Core.List.{List, [], _∷_, _++_}
 use Prim.Native.Nat.{ℕ, _+_, _%_, _≤_}
 use native.Mathlib.Omega.{arith}
 use borrow.Author.Tests.{eq-eqb, eqb-true, le-leb, leb-true}
 use lib.Dec.{eqb, leb}
 use Rattle.octets.specs.Number.{getAt}
-use Rattle.chain.specs.Role.{requestRole, firstRole, alreadyMet, roleOf, noneMet, metAfter, roleWith}
+use Rattle.chain.specs.Role.{requestRole, firstRole, alreadyMet, roleOf, noneMet, metAfter, roleWith, isAnswered}
 use Rattle.chain.specs.declared.cursor.Field.{Field}
 use Rattle.chain.specs.declared.role.Met.{Met}
 use Rattle.chain.specs.declared.role.Role.{Role}
@@ -67,6 +67,27 @@ unfolding roleWith roleOf
 role-met s before f =
     at-type (f .kind) (λ (k : ℕ). alreadyMet k before) _ _ _ (eqb (f .kind) 0xF503) (eqb (f .kind) 0xF505) (eqb (f .kind) 0xF5FF)
     (eqb-true _ _) (eqb-true _ _) (eqb-true _ _)
+
+none-of : (a b c : Bool) → a || b || c ≡ false → (a ≡ false) × (b ≡ false) × (c ≡ false)
+none-of true b c e = absurd (false≢true (sym e))
+none-of false true c e = absurd (false≢true (sym e))
+none-of false false c e = (refl, refl, e)
+
+-- a field of a type that is not answered is unknown, and leaves the flags as they are
+module _ (f : Field) (m : Met) (e : isAnswered (f .kind) ≡ false) where
+  others : (eqb (f .kind) 0xF503 ≡ false) × (eqb (f .kind) 0xF505 ≡ false) × (eqb (f .kind) 0xF5FF ≡ false)
+  others = none-of (eqb (f .kind) 0xF503) (eqb (f .kind) 0xF505) (eqb (f .kind) 0xF5FF) e
+
+  pub unanswered-role : (s : List ℕ) → Unknown ≡ roleWith s f m
+  unfolding roleWith
+  unanswered-role s = rw (others .0, others .1, others .2)
+
+  pub unanswered-met : m ≡ metAfter m (f .kind)
+  unanswered-met = rw (others .0, others .1, others .2) (λ i. record {
+    request = sym (or-false (m .request)) i;
+    information = sym (or-false (m .information)) i;
+    name = sym (or-false (m .name)) i;
+  })
 
 -- a good filter request
 pub record Good (offset n : ℕ) : Type 0 where

@@ -52,3 +52,7 @@ roleWith s f m =
     (cond (eqb (f .kind) 0xF505) (cond (m .information) Unknown (cond (eqb (f .length) 4) Information Unknown))
     (cond (eqb (f .kind) 0xF5FF) (cond (m .name) Unknown DraftName)
     Unknown))
+
+-- the types that a responder answers: a field of any other is unknown, and changes no flag
+abbrev pub isAnswered : ℕ → Bool
+isAnswered kind = eqb kind 0xF503 || eqb kind 0xF505 || eqb kind 0xF5FF

@@ -2,7 +2,7 @@
 use crate::cursor::Field;
 use octets::number;
 ghost use mathlib.Core.Path.{_≡_};
-ghost use Rattle.chain.specs.Role.{noneMet, metAfter, roleWith, requestRole};
+ghost use Rattle.chain.specs.Role.{isAnswered, noneMet, metAfter, roleWith, requestRole};
 
 // Which of the types that a responder answers were met already.
 pub struct Met {
@@ -18,6 +18,13 @@ pub enum Role {
     DraftName,
     // Any other field: it is skipped.
     Unknown,
+}
+
+// Whether a responder answers fields of a type, so that one test skips a field of any other.
+pub fn is_answered(kind: u16) -> bool
+    ensures { λ r. ⌜ r ≡ isAnswered kind ⌝ }
+{
+    (kind == 0xF503) | (kind == 0xF505) | (kind == 0xF5FF)
 }
 
 pub fn none_met() -> Met
