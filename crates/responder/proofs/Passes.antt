@@ -1,5 +1,6 @@
 -- The pass over a request's fields: its steps, and that its three flags stand for the fields before. Assumes nothing.
 use mathlib.Core.Path.{_≡_, refl, sym, ap, subst⁻¹, _∙_}
+use mathlib.Core.Bool.{false}
 use mathlib.Core.List.{List, [], _∷_, _++_}
 use Prim.Native.Nat.{ℕ, _+_, _≤_}
 use native.Mathlib.Omega.{arith}
@@ -7,7 +8,7 @@ use lib.ListN.{length}
 use Rattle.chain.specs.Chain.{padded, stepAt}
 use Rattle.chain.specs.Content.{Content, chainOctets}
 use Rattle.chain.specs.Field.{fieldsFrom}
-use Rattle.chain.specs.Role.{roleOf, noneMet, metAfter, roleWith}
+use Rattle.chain.specs.Role.{roleOf, noneMet, metAfter, roleWith, isAnswered}
 use Rattle.chain.specs.declared.cursor.Cursor.{Cursor}
 use Rattle.chain.specs.declared.cursor.Field.{Field}
 use Rattle.chain.specs.declared.cursor.Step.{Step}
@@ -17,7 +18,7 @@ use Rattle.chain.specs.declared.role.Role.{Role}
 use Rattle.chain.proofs.Steps.{Stopped, at-an-end, at-end, reached, reached-exactly}
 use Rattle.chain.proofs.Contents.{chain-append}
 use Rattle.chain.proofs.Fields.{no-field, next-field}
-use Rattle.chain.proofs.Roles.{Suits, suits-with, metOf, met-next, role-met}
+use Rattle.chain.proofs.Roles.{Suits, suits-with, metOf, met-next, role-met, unanswered-role, unanswered-met}
 use Rattle.responder.specs.Answer.{answerTo, answersTo}
 use Rattle.responder.specs.Pass.{Lays, answersWith}
 use Rattle.responder.proofs.Laying.{lays-none, lays-next, length-laid}
@@ -105,3 +106,8 @@ module _ (s filter information out₀ : List ℕ) where
             high = r .1;
             rest = λ end u rest k. p .rest end u (rw (pass-next s filter information place t e m f c q, chain-append, ← er, ← em) (lays-next l rest (omega arith))) k;
           }
+
+      -- a field of a type that is not answered is passed over
+      pub pass-skips : isAnswered (f .kind) ≡ false → Passing s filter information out₀ (c .at) m at out
+      unfolding chainOctets
+      pass-skips u = pass-goes-on (unanswered-role f m u s) (unanswered-met f m u) (lays-none out at)

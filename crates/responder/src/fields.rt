@@ -76,9 +76,11 @@ pub(crate) fn answers(request: &[u8], filter: &[u8], information: &[u8], out: &m
         let Step::Found(field, next) = cursor.step(request) else {
             return at;
         };
-        let role = role::role_of(request, field, met);
-        at = answer_to(role, field, filter, information, out, at);
-        met = role::met_after(met, field.kind);
+        if role::is_answered(field.kind) {
+            let role = role::role_of(request, field, met);
+            at = answer_to(role, field, filter, information, out, at);
+            met = role::met_after(met, field.kind);
+        }
         cursor = next;
     }
     at
