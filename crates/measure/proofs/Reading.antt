@@ -1,14 +1,14 @@
 -- Residues modulo 2^64, their signed reading, and a difference as it stands raised by 2^63. Assumes nothing.
-use mathlib.Core.Path.{_≡_, sym, ap, _∙_}
+use mathlib.Core.Path.{_≡_, refl, sym, ap, _∙_}
 use Prim.Native.Nat.{ℕ, suc, _+_, _*_, _/_, _%_, _^_, _<_}
 use native.Mathlib.Omega.{arith}
 use lib.IntN.{ℤ, pos, negsuc, subℕ, _+ℤ_, _-ℤ_, _*ℤ_}
-use lib.Signed.{mag, shrZ}
+use lib.Signed.{mag, shrZ, mag-shr}
 use mir.Syntax.{w64}
 use mir.Val.{toZ, ofZ}
 use mir.ValLaws.{toZ-pos, toZ-ofZ}
 use borrow.Author.Tests.{le-ltb}
-use Rattle.measure.specs.Measure.{residue, signedReading, difference}
+use Rattle.measure.specs.Measure.{residue, signedReading, halfDown, difference}
 use Rattle.measure.proofs.Whole.{sub-below, sub-above, sub-is, by-test, by-order, lower-raise}
 
 -- ---- the residue
@@ -40,7 +40,7 @@ residue-wraps a b r h e = ap residue (sym (sub-is a b)) ∙ residue-only a b r h
 -- ---- the signed reading
 
 -- n raised by 2^63 modulo 2^64
-abbrev raise : ℕ → ℕ
+abbrev pub raise : ℕ → ℕ
 raise n = (n + 2 ^ 63) % 2 ^ 64
 
 pub reading-sub : (n : ℕ) → n < 2 ^ 64 → signedReading n ≡ subℕ (raise n) (2 ^ 63)
@@ -60,6 +60,14 @@ machine-reading n f =
 pub read-back : (z : ℤ) → mag z < 2 ^ 63 → toZ w64 (ofZ w64 z) ≡ z
 read-back z h = toZ-ofZ w64 z (record { sfits = h })
 
+-- the machine's shift to the right halves it, rounded down
+shift-halves : (z : ℤ) → shrZ z 2 ≡ halfDown z
+shift-halves (pos n) = refl
+shift-halves (negsuc n) = refl
+
+pub half-back : (z : ℤ) → mag z < 2 ^ 63 → toZ w64 (ofZ w64 (shrZ (toZ w64 (ofZ w64 z)) 2)) ≡ halfDown z
+half-back z h = rw (read-back z h) (read-back (shrZ z 2) (omega (arith, mag-shr z 2)) ∙ shift-halves z)
+
 -- ---- the difference
 
 -- the difference of a and b, raised by 2^63
@@ -70,8 +78,11 @@ pub difference-sub : (a b : ℕ) → difference a b ≡ subℕ (raisedDifference
 unfolding difference
 difference-sub a b = reading-sub (residue (pos a -ℤ pos b)) (residue-lt (pos a -ℤ pos b))
 
--- a wrapping subtract and a wrapping add of 2^63 give it
+-- by a wrapping subtract
+pub difference-gap : (a b gap : ℕ) → gap < 2 ^ 64 → (gap + b) % 2 ^ 64 ≡ a → difference a b ≡ subℕ (raise gap) (2 ^ 63)
+difference-gap a b gap h e = difference-sub a b ∙ ap (λ (n : ℕ). subℕ (raise n) (2 ^ 63)) (residue-wraps a b gap h e)
+
+-- and raised by a wrapping add of 2^63
 pub raised-is : (a b gap r : ℕ) → gap < 2 ^ 64 → (gap + b) % 2 ^ 64 ≡ a → r ≡ raise gap → pos r ≡ difference a b +ℤ pos (2 ^ 63)
 raised-is a b gap r h e q =
-    let same : r ≡ raisedDifference a b = q ∙ ap raise (sym (residue-wraps a b gap h e)) in
-    sym (lower-raise r (2 ^ 63)) ∙ ap (λ (z : ℤ). z +ℤ pos (2 ^ 63)) (ap (λ (k : ℕ). subℕ k (2 ^ 63)) same ∙ sym (difference-sub a b))
+    sym (lower-raise r (2 ^ 63)) ∙ ap (λ (z : ℤ). z +ℤ pos (2 ^ 63)) (ap (λ (n : ℕ). subℕ n (2 ^ 63)) q ∙ sym (difference-gap a b gap h e))
