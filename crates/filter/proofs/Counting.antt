@@ -1,23 +1,22 @@
 -- The laws of weight, the number of positions that are set. Assumes nothing.
 --     weight-le        at most 4096
 --     weight-ones      the sum of the ones of the octets
---     weight-within    positions past the end add nothing
+--     count-octets     of several octets, the ones of the number that they spell
 --     weight-fresh     0 of a fresh filter
 use mathlib.Core.Path.{_≡_, refl, ap, _∙_}
 use mathlib.Core.Bool.{Bool, true, false, cond}
 use mathlib.Core.List.{List}
-use Prim.Native.Nat.{ℕ, zero, suc, _+_, _-_, _*_, _/_, _%_, _^_, _≤_, _<_, zero-le, min}
+use Prim.Native.Nat.{ℕ, zero, suc, _+_, _*_, _/_, _%_, _^_, _≤_, _<_, zero-le}
 use native.Mathlib.Nat.{add-zero, add-suc, div-one}
-use native.Mathlib.Decide.{decLt}
 use native.Mathlib.Omega.{arith}
-use lib.Arith.{le-zero}
-use lib.Count.{ones, ones-step, ones-le}
-use lib.Dec.{eqb}
-use lib.ListN.{length, getD}
-use lib.Pow.{shr-shr}
-use Rattle.filter.specs.Filter.{fresh, isSet, countBelow, weight}
+use lib.Arith.{le-zero, digits-lt}
+use lib.Count.{ones, ones-step, ones-le, ones-cat}
+use lib.Dec.{eqb, lit<}
+use lib.ListN.{getD}
+use lib.Pow.{shr-shr, pow-add}
+use Rattle.filter.specs.Filter.{fresh, isSet, countBelow, weight, lowFirst}
 use Rattle.filter.proofs.Digits.{Octets}
-use Rattle.filter.proofs.Adding.{digit, isSet-past, isSet-fresh}
+use Rattle.filter.proofs.Adding.{digit, isSet-fresh}
 
 -- the ones of the first n octets
 unfoldable pub onesBelow : List ℕ → ℕ → ℕ
@@ -77,6 +76,22 @@ count-ones f o (suc n) =
 pub weight-ones : (f : List ℕ) → Octets f → weight f ≡ onesBelow f 512
 weight-ones f o = count-ones f o 512
 
+-- ---- the positions of several octets, by the ones of the number that they spell
+
+pub lowFirst-lt : (l : List ℕ) → Octets l → (i n : ℕ) → lowFirst l i n < 2 ^ (8 * n)
+unfolding lowFirst
+lowFirst-lt l o i zero = lit< tt
+lowFirst-lt l o i (suc n) =
+    let e : 8 * suc n ≡ 8 + 8 * n = omega arith in
+    rw (e, pow-add) (digits-lt (o (i + n)) (lowFirst-lt l o i n))
+
+pub count-octets : (f : List ℕ) → Octets f → (i n : ℕ) → countBelow f (8 * (i + n)) ≡ countBelow f (8 * i) + ones (lowFirst f i n)
+unfolding lowFirst ones
+count-octets f o i zero = simp add-zero
+count-octets f o i (suc n) =
+    let e : 8 * (i + suc n) ≡ 8 * (i + n + 1) = omega arith in
+    ap (countBelow f) e ∙ omega (arith, count-octet f (i + n) (o (i + n)), count-octets f o i n, ones-cat (8 * n) (getD f (i + n) 0) (lowFirst f i n) (lowFirst-lt f o i n))
+
 -- ---- positions that are not set
 
 count-none : (f : List ℕ) (m n : ℕ) → ((p : ℕ) → m ≤ p → isSet f p ≡ false) → countBelow f (m + n) ≡ countBelow f m
@@ -84,17 +99,6 @@ unfolding countBelow
 count-none f m zero h = ap (countBelow f) (add-zero m)
 count-none f m (suc n) h =
     rw (add-suc, h (m + n) (omega arith)) (add-zero (countBelow f (m + n)) ∙ count-none f m n h)
-
--- the positions of a shorter list are all that count
-pub weight-within : (f : List ℕ) → weight f ≡ countBelow f (8 * min (length f) 512)
-weight-within f = either (decLt (length f) 512)
-  where
-    either : Dec (length f < 512) → weight f ≡ countBelow f (8 * min (length f) 512)
-    either (yes h) =
-        let e : 4096 ≡ 8 * length f + (4096 - 8 * length f) = omega arith in
-        let m : 8 * length f ≡ 8 * min (length f) 512 = omega arith in
-        ap (countBelow f) e ∙ count-none f (8 * length f) (4096 - 8 * length f) (λ p k. isSet-past f p (omega arith)) ∙ ap (countBelow f) m
-    either (no h) = ap (countBelow f) (omega (arith, h))
 
 pub weight-fresh : weight fresh ≡ 0
 weight-fresh = count-none fresh 0 4096 (λ p h. isSet-fresh p) ∙ count-zero fresh

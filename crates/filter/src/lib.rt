@@ -1,9 +1,10 @@
 // Reference-ID filters: 4,096 positions in 512 octets, ten of them set for each ID.
-// Each function is total: a position past the end of a slice is not set, and adding it changes nothing.
+// Each public function is total: a position past the end of a slice is not set, and adding it changes nothing.
 ghost use mathlib.Core.Path.{_≡_};
-ghost use Prim.Native.Nat.{_+_, _*_, _/_, _%_};
+ghost use Prim.Native.Nat.{_+_, _*_, _/_, _%_, _≤_};
+ghost use lib.ListN.{length};
 ghost use Rattle.filter.specs.Positions.{positions};
-ghost use Rattle.filter.specs.Filter.{fresh, addAll, containsAll, union, weight, ofId};
+ghost use Rattle.filter.specs.Filter.{fresh, addAll, containsAll, union, lowFirst, weight, ofId};
 ghost use Rattle.filter.specs.Calls.{idOf, addId, unite, weighed, numbers, weighing};
 
 // The refusal of a filter or an ID of the wrong size.
@@ -99,16 +100,40 @@ pub fn union(into: &mut [u8], other: &[u8])
     }
 }
 
-// How many of the 4,096 positions are set.
-pub fn weight(filter: &[u8]) -> u16
+// Four octets as one number, the first the lowest.
+fn low_first(a: u8, b: u8, c: u8, d: u8) -> u64
+    ensures { λ r. ⌜ r ≡ ((d * 256 + c) * 256 + b) * 256 + a ⌝ }
+{
+    ((d as u64 * 256 + c as u64) * 256 + b as u64) * 256 + a as u64
+}
+
+// Four octets of a slice as one number.
+fn half_word(s: &[u8], at: usize) -> u64
+    requires { ⌜ at + 4 ≤ length (now s) ⌝ }
+    ensures { λ r. ⌜ r ≡ lowFirst (now (s .entry)) at 4 ⌝ }
+{
+    low_first(s[at], s[at + 1], s[at + 2], s[at + 3])
+}
+
+// Eight octets of a slice as one number. The first is the lowest, as in the machine's own words, and the compiler knows the
+// two halves as one load.
+fn word(s: &[u8], at: usize) -> u64
+    requires { ⌜ at + 8 ≤ length (now s) ⌝ }
+    ensures { λ r. ⌜ r ≡ lowFirst (now (s .entry)) at 8 ⌝ }
+{
+    half_word(s, at + 4) * 0x1_0000_0000 + half_word(s, at)
+}
+
+// How many of the 4,096 positions are set, eight octets at a time.
+fn weight(filter: &[u8]) -> u16
+    requires { ⌜ length (now filter) ≡ 512 ⌝ }
     ensures { λ r. ⌜ r ≡ weight (now (filter .entry)) ⌝ }
 {
-    let end = min(filter.len(), 512);
     let mut n: u16 = 0;
     let mut i = 0;
-    while i < end {
-        n += u8::count_ones(filter[i]) as u16;
-        i += 1;
+    while i < 512 {
+        n += u64::count_ones(word(filter, i)) as u16;
+        i += 8;
     }
     n
 }
