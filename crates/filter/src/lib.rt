@@ -4,7 +4,7 @@ ghost use mathlib.Core.Path.{_≡_};
 ghost use Prim.Native.Nat.{_+_, _*_, _/_, _%_, _≤_};
 ghost use lib.ListN.{length};
 ghost use Rattle.filter.specs.Positions.{positions};
-ghost use Rattle.filter.specs.Filter.{fresh, addAll, containsAll, union, lowFirst, weight, ofId};
+ghost use Rattle.filter.specs.Filter.{fresh, addAll, containsAll, union, lowFirst, weight};
 ghost use Rattle.filter.specs.Calls.{idOf, addId, unite, weighed, numbers, weighing};
 
 // The refusal of a filter or an ID of the wrong size.
@@ -136,15 +136,6 @@ fn weight(filter: &[u8]) -> u16
         i += 8;
     }
     n
-}
-
-// The filter of one ID alone.
-pub fn of_id(id: [u8; 15]) -> [u8; 512]
-    ensures { λ r. ⌜ r ≡ ofId id ⌝ }
-{
-    let mut filter = [0; 512];
-    add(&mut filter, positions(id));
-    filter
 }
 
 // A lent ID by value; zeros if it is not 15 octets.

@@ -21,10 +21,18 @@ pub(crate) fn wants_interleaved(asked: Header) -> bool
     asked.flags / 2 % 2 == 1
 }
 
-fn either(first: bool, a: u64, b: u64) -> u64
-    ensures { λ r. ⌜ r ≡ cond first a b ⌝ }
+// The server cookie that an answer carries: the fresh one, where the request wants an interleaved answer.
+fn cookie_of(interleaved: bool, fresh: ServerCookie) -> ServerCookie
+    ensures { λ r. ⌜ r .0 ≡ cond interleaved (fresh .0) 0 ⌝ }
 {
-    if first { a } else { b }
+    if interleaved { fresh } else { ServerCookie(0) }
+}
+
+// The transmit time: the estimate, where none was saved.
+fn transmit_of(none: bool, estimate: u64, saved: u64) -> u64
+    ensures { λ r. ⌜ r ≡ cond none estimate saved ⌝ }
+{
+    if none { estimate } else { saved }
 }
 
 // The server's flags without 0x2, which is set where a saved time is sent.
@@ -47,8 +55,8 @@ pub(crate) fn header_of(
     ensures { λ r. ⌜ r ≡ answerHeader server asked receive estimate (fresh .0) saved ⌝ }
 {
     let flags = flags_of(server.flags, saved);
-    let cookie = either(wants_interleaved(asked), fresh.0, 0);
-    let transmit = either(saved == 0, estimate, saved);
+    let server_cookie = cookie_of(wants_interleaved(asked), fresh);
+    let transmit = transmit_of(saved == 0, estimate, saved);
     let client_cookie = asked.client_cookie;
     Header {
         leap: server.leap,
@@ -61,7 +69,7 @@ pub(crate) fn header_of(
         flags,
         root_delay: server.root_delay,
         root_dispersion: server.root_dispersion,
-        server_cookie: ServerCookie(cookie),
+        server_cookie,
         client_cookie,
         receive,
         transmit,

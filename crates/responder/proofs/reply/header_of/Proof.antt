@@ -11,20 +11,20 @@ flags-of-requires c κs = search needs
 wants-interleaved-requires : tie.Need-wants-interleaved-requires
 wants-interleaved-requires c κs = search needs
 
-either-requires : tie.Need-either-requires
-either-requires c κs = search needs
+cookie-of-requires : tie.Need-cookie-of-requires
+cookie-of-requires c κs = search needs
 
-either-requires-2 : tie.Need-either-requires-2
-either-requires-2 c κs = search needs
+transmit-of-requires : tie.Need-transmit-of-requires
+transmit-of-requires c κs = search needs
 
 returns : tie.Need-returns
 returns c =
-    let at-either2 = c .before .before in
-    let at-either = at-either2 .before in
-    let at-wants = at-either .before in
+    let at-transmit = c .before .before in
+    let at-cookie = at-transmit .before in
+    let at-wants = at-cookie .before in
     let at-flags = at-wants .before in
     let numbers = at-flags .before .good .0 .1 .1 .1 .1 in
-    rw (toZ-ofZ {w = w8} (record { sfits = numbers .0 .1 }), toZ-ofZ {w = w8} (record { sfits = numbers .1 .0 .1 }), at-flags .flags-of .ensures, at-either2 .either2 .ensures, at-either .either .ensures, at-wants .wants-interleaved .ensures)
+    rw (toZ-ofZ {w = w8} (record { sfits = numbers .0 .1 }), toZ-ofZ {w = w8} (record { sfits = numbers .1 .0 .1 }), at-flags .flags-of .ensures, at-transmit .transmit-of .ensures, at-cookie .cookie-of .ensures, at-wants .wants-interleaved .ensures)
 
 pub header-of-spec : {M : Type 1} → statement M
 header-of-spec =
@@ -32,6 +32,6 @@ header-of-spec =
     (tie.spec
     flags-of-requires
     wants-interleaved-requires
-    either-requires
-    either-requires-2
+    cookie-of-requires
+    transmit-of-requires
     returns)
