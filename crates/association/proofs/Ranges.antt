@@ -1,11 +1,11 @@
 -- What a head in range says of its numbers. Assumes nothing.
 use mathlib.Core.Path.{_≡_, refl}
-use mathlib.Core.Bool.{Bool, true, false, not, _&&_, _||_}
+use mathlib.Core.Bool.{Bool, true, false, _&&_}
 use mathlib.Core.List.{List, [], _∷_}
 use Prim.Native.Nat.{ℕ, _+_, _%_, _<_, _≤_}
 use native.Mathlib.Omega.{arith}
 use lib.Dec.{eqb, ltb, leb}
-use borrow.Author.Tests.{ltb-true, leb-true, eqb-true, eqb-false, ne-eqb, not-true}
+use borrow.Author.Tests.{ltb-true, leb-true, eqb-true, ne-eqb}
 use Rattle.association.specs.Rules.{offered}
 use Rattle.association.specs.Record.{chunkOffset, requestInRange, savedInRange, openInRange, inRange}
 use Rattle.association.specs.declared.head.Head.{Head}
@@ -70,29 +70,4 @@ open-ranges h g k =
       taken-whole = eqb-true _ _ (p .1 .1 .1 .1 .0);
       request = p .1 .1 .1 .1 .1 .0;
       saved = p .1 .1 .1 .1 .1 .1 .0;
-    }
-
--- of an open head with a request outstanding
-pub record RequestRanges (h : Head) : Type 0 where
-  pub outstanding : h .outstanding ≡ 1
-  pub last : h .last .0 ≡ 0 → ⊥
-  pub offset : h .request .offset < 512
-  pub offset-whole : h .request .offset % h .chunk ≡ 0
-  pub offset-ends : h .request .offset + h .chunk ≤ 512
-  pub server : (eqb (h .request .server .0) 0 || not (eqb (h .saved .t4) 0)) ≡ true
-
-pub request-ranges : (h : Head) → OpenRanges h → (h .outstanding ≡ 0 → ⊥) → RequestRanges h
-request-ranges h o k =
-    let q = h .request in
-    let p = each (eqb (h .outstanding) 1) (not (eqb (h .last .0) 0) ∷ chunkOffset (h .chunk) (q .offset) ∷ (eqb (q .server .0) 0 || not (eqb (h .saved .t4) 0)) ∷ []) (rw (ne-eqb (h .outstanding) 0 k) at (o .request)) in
-    let at = each (ltb (q .offset) 512) (eqb (q .offset % h .chunk) 0 ∷ []) (p .1 .1 .0) in
-    let n = ltb-true (q .offset) 512 (at .0) in
-    let w = eqb-true (q .offset % h .chunk) 0 (at .1 .0) in
-    record {
-      outstanding = eqb-true _ _ (p .0);
-      last = eqb-false _ _ (not-true _ (p .1 .0));
-      offset = n;
-      offset-whole = w;
-      offset-ends = chunk-offset (h .chunk) (q .offset) (chunk-size (h .chunk) (o .chunk)) n w .fits;
-      server = p .1 .1 .1 .0;
     }

@@ -1,20 +1,19 @@
 -- Where an answer is not refused: its request and arguments are accepted, and the times of its row are of 64 bits. Assumes nothing.
 use mathlib.Core.Path.{_≡_, refl}
 use mathlib.Core.Bool.{Bool, true, false, cond, not, _||_}
-use mathlib.Core.List.{List, [], _∷_, _++_}
-use Prim.Native.Nat.{ℕ, zero, suc, _+_, _<_, _^_}
+use mathlib.Core.List.{List, _++_}
+use Prim.Native.Nat.{ℕ, zero, suc, _+_}
 use native.Mathlib.Omega.{arith}
 use borrow.Author.Tests.{ltb-false, eq-eqb, eqb-true, ne-eqb, not-false}
-use lib.Dec.{eqb, lit<}
+use lib.Dec.{eqb}
 use lib.ListN.{length, drop}
 use Rattle.octets.specs.Number.{Octets, num}
-use Rattle.octets.proofs.Numbers.{num-lt}
 use Rattle.chain.specs.Chain.{soundRefusal}
-use Rattle.store.specs.Row.{Record, timeOf, recordsFrom, unused, usedOf, rowOf, storeOctets, sizeOf, wrongStore}
+use Rattle.store.specs.Row.{rowOf, storeOctets, sizeOf, wrongStore}
 use Rattle.store.proofs.Rows.{or-none}
 use Rattle.responder.specs.Answer.{Given, Outcome, wrongArguments, wrongFresh, answerRefusal, answerOctets, answerOf, rowAfter, asking}
 use Rattle.responder.specs.Claim.{Accepted, InRange, AnswerClaim}
-use Rattle.responder.proofs.Answers.{either, answer-claim}
+use Rattle.responder.proofs.Answers.{answer-claim}
 
 -- a refusal that is not given
 pub not-given : (b : Bool) (n m : ℕ) → cond b (suc n) m ≡ 0 → (b ≡ false) × (m ≡ 0)
@@ -80,24 +79,6 @@ answer-number g store out = go (answerRefusal g store out) _ refl _ refl
     go (suc n) w e v f = rw (ne-eqb (suc n) 0 (λ e. omega arith)) f
 
 -- the times of the records that a store has
-
-time-first : (r : Record) (rs : List Record) (cookie : ℕ) → r .time < 2 ^ 64 → timeOf cookie (usedOf rs) < 2 ^ 64
-    → timeOf cookie (usedOf (r ∷ rs)) < 2 ^ 64
-unfolding timeOf usedOf
-time-first r rs cookie h k = go (unused r)
-  where
-    go : (b : Bool) → timeOf cookie (cond b [] (r ∷ usedOf rs)) < 2 ^ 64
-    go true = lit< tt
-    go false = either (eqb (r .cookie) cookie) (r .time) (timeOf cookie (usedOf rs)) (2 ^ 64) h k
-
-times-from : (n : ℕ) (s : List ℕ) (at : ℕ) → Octets s → (cookie : ℕ) → timeOf cookie (usedOf (recordsFrom n s at)) < 2 ^ 64
-unfolding timeOf usedOf recordsFrom
-times-from zero s at o cookie = lit< tt
-times-from (suc n) s at o cookie =
-    time-first (record { cookie = num s at 8; time = num s (at + 8) 8 }) (recordsFrom n s (at + 16)) cookie (num-lt s (at + 8) 8 o) (times-from n s (at + 16) o cookie)
-
-pub row-times : (store : List ℕ) → Octets store → (cookie : ℕ) → timeOf cookie (rowOf store) < 2 ^ 64
-row-times store o cookie = times-from _ store 0 o cookie
 
 -- the claim, of each answer that is not refused
 pub answer-given : (g : Given) (store out : List ℕ) → answerRefusal g store out ≡ 0 → InRange g (rowOf store) → AnswerClaim g (rowOf store)

@@ -1,21 +1,21 @@
 -- What an answer reads of the store and leaves in it, by the row's places. Assumes nothing.
-use mathlib.Core.Path.{_≡_, refl, sym, ap, _∙_}
-use mathlib.Core.Bool.{Bool, true, false, cond, _||_, _&&_}
+use mathlib.Core.Path.{_≡_, refl, sym, _∙_}
+use mathlib.Core.Bool.{Bool, true, false, cond, _||_}
 use mathlib.Core.List.{List}
-use Prim.Native.Nat.{ℕ, _+_, _<_, _≤_}
+use Prim.Native.Nat.{ℕ, _+_, _≤_}
 use native.Mathlib.Omega.{arith}
-use borrow.Author.Tests.{eq-eqb, ne-eqb, eqb-true, eqb-false}
+use borrow.Author.Tests.{eq-eqb, ne-eqb, eqb-false}
 use lib.Dec.{eqb, ltb}
 use lib.ListN.{length}
 use Rattle.octets.specs.Number.{Octets, getAt}
 use Rattle.header.specs.declared.Header.{Header}
 use Rattle.store.specs.Row.{Record, held, timeOf, without, joined, storeOctets, sizeOf, rowOf, wrongStore}
 use Rattle.store.specs.Place.{placeOf, removed, joinedOctets}
-use Rattle.store.proofs.Rows.{SoundRow, time-held}
+use Rattle.store.proofs.Rows.{time-held}
 use Rattle.store.proofs.Stores.{Stores, store-read, store-written}
 use Rattle.store.proofs.Changed.{place-held, place-time, place-removed, place-joined, place-most as ends}
 use Rattle.store.proofs.Kept.{length-without, sound-without}
-use Rattle.responder.specs.Answer.{wantsInterleaved, savedTime, wrongFresh, rowAfter}
+use Rattle.responder.specs.Answer.{wantsInterleaved, savedTime, rowAfter}
 
 module _ (s : List ℕ) (o : Octets s) (right : wrongStore s ≡ false) where
   stored : Stores s (sizeOf s) (rowOf s)

@@ -4,7 +4,7 @@ use mathlib.Core.Bool.{Bool, true, false, cond, _&&_, _||_}
 use mathlib.Core.List.{List, [], _∷_, _++_}
 use Prim.Native.Nat.{ℕ, _<_, _≤_, _^_}
 use native.Mathlib.Omega.{arith}
-use borrow.Author.Tests.{ne-eqb, eqb-true, eqb-false}
+use borrow.Author.Tests.{ne-eqb, eqb-false}
 use lib.Dec.{eqb, lit<}
 use lib.ListN.{length, drop}
 use Rattle.store.specs.Row.{Record, held, timeOf, without, joined, storeOctets}
@@ -117,11 +117,3 @@ module _ {s : List ℕ} {n : ℕ} {row : List Record} (w : Stores s n row) (g : 
           let k = w .within in
           store-written n (joined n (g .fresh) left) sound (length-joined n (g .fresh) left (w .low) (omega arith)) (w .low) (w .high)
       go false new = store-written n row (w .sound) (w .within) (w .low) (w .high)
-
-  -- an answer, refused or not, leaves the octets of a sound row
-  pub answer-keeps : g .fresh < 2 ^ 64 → Stores (answerOf g s out .store) n (cond (eqb (answerRefusal g s out) 0) next row)
-  answer-keeps small = go (eqb (answerRefusal g s out) 0) refl
-    where
-      go : (b : Bool) → eqb (answerRefusal g s out) 0 ≡ b → Stores (answerOf g s out .store) n (cond b next row)
-      go true e = let q = eqb-true (answerRefusal g s out) 0 e in rw (answer-done q) (answer-stores small q)
-      go false e = rw (answer-refused (eqb-false (answerRefusal g s out) 0 e)) w

@@ -11,14 +11,11 @@ use Rattle.chain.specs.Chain.{padded, stepAt, Walk, onStep, walkFor, walk}
 use Rattle.chain.specs.Field.{fieldsFrom}
 use Rattle.chain.specs.Content.{content, chainOctets, draftName}
 use Rattle.chain.specs.Role.{roleOf}
-use Rattle.chain.specs.declared.cursor.Cursor.{Cursor}
 use Rattle.chain.specs.declared.cursor.Field.{Field}
 use Rattle.chain.specs.declared.cursor.Step.{Step}
-use Rattle.chain.specs.declared.cursor.Step.the-variants.{Found}
 use Rattle.chain.specs.declared.role.Role.{Role}
 use Rattle.chain.specs.declared.role.Role.the-variants.{FilterRequest, Information, DraftName, Unknown}
-use Rattle.chain.proofs.Steps.{lengthAt, View, ended, cut, few, past, unclean, sound, view, reached-exactly, Stopped}
-use Rattle.chain.proofs.Fields.{no-field, next-field}
+use Rattle.chain.proofs.Steps.{lengthAt, View, ended, cut, few, past, unclean, sound, view}
 use Rattle.chain.proofs.Roles.{Suits, suits}
 use Rattle.chain.proofs.Contents.{AllFit, fit-append, length-chain-one, length-chain-append}
 use Rattle.responder.specs.Answer.{answerTo, answersTo, paddingOf}
@@ -40,17 +37,6 @@ name-long n = rw length-take (omega arith)
 pub name-length : (n : ℕ) → length (take n draftName) ≤ n
 name-length n = rw length-take (omega arith)
 
--- the answers to a chain's fields, one step of its walk after another
-module _ (request filter information : List ℕ) (before : List Field) (s : List ℕ) (at : ℕ) (t : Step) (e : t ≡ stepAt s at) where
-  pub answers-none : Stopped t → answersTo request filter information before (fieldsFrom s at) ≡ []
-  unfolding answersTo
-  answers-none o = ap (answersTo request filter information before) (no-field s at t e o)
-
-  pub answers-next : (f : Field) (c : Cursor) → t ≡ Found f c
-      → answersTo request filter information before (fieldsFrom s at) ≡ answerTo filter information f (roleOf request before f) ++ answersTo request filter information (before ++ (f ∷ [])) (fieldsFrom s (c .at))
-  unfolding answersTo
-  answers-next f c q = ap (answersTo request filter information before) (next-field s at t e f c q)
-
 module _ (request filter information : List ℕ) (octets : length filter ≡ 512) (four : length information ≡ 4) where
   -- what answers a field that suits its role takes no more than the field
   pub answer-size : (f : Field) (r : Role) → Suits f r → length (chainOctets (answerTo filter information f r)) ≤ 4 + padded (f .length)
@@ -63,11 +49,6 @@ module _ (request filter information : List ℕ) (octets : length filter ≡ 512
 
   pub answer-fits : (s : List ℕ) (before : List Field) (f : Field) → length (chainOctets (answerTo filter information f (roleOf s before f))) ≤ 4 + padded (f .length)
   answer-fits s before f = answer-size f (roleOf s before f) (suits s before f)
-
-  -- so that it ends where the step over the field ends, or before
-  pub answer-fits-step : (s : List ℕ) (before : List Field) (at : ℕ) (f : Field) (c : Cursor) → stepAt s at ≡ Found f c
-      → length (chainOctets (answerTo filter information f (roleOf s before f))) ≤ c .at - at
-  answer-fits-step s before at f c e = omega (arith, answer-fits s before f, reached-exactly s at f c e)
 
   -- a field and those after it
   more : (before : List Field) (f : Field) (fs : List Field) (at n size : ℕ) → n ≡ at + 4 + padded (f .length)

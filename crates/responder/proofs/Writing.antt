@@ -1,5 +1,5 @@
 -- An answer written in its three parts: header, answers, padding. Assumes nothing.
-use mathlib.Core.Path.{_≡_, refl, sym, ap, _∙_}
+use mathlib.Core.Path.{_≡_, ap, _∙_}
 use mathlib.Core.List.{List, [], _++_, append-assoc}
 use Prim.Native.Nat.{ℕ, _+_, _-_, _%_, _≤_}
 use native.Mathlib.Omega.{arith}
@@ -7,7 +7,7 @@ use lib.ListN.{length, take, drop, length-append, length-drop}
 use lib.Seq.{take-all, take-at}
 use Rattle.header.specs.Header.{octetsOf, written}
 use Rattle.header.specs.declared.Header.{Header}
-use Rattle.header.proofs.Refusals.{accepted, Accepted, in-room}
+use Rattle.header.proofs.Refusals.{accepted, in-room}
 use Rattle.header.proofs.RoundTrip.{length-octetsOf}
 use Rattle.chain.specs.Chain.{soundRefusal}
 use Rattle.chain.specs.Content.{Content, chainOctets}

@@ -1,11 +1,11 @@
 -- The same row by its places in the store's octets, on any octets lent.
 use mathlib.Core.Bool.{cond}
 use mathlib.Core.List.{List, [], _∷_, _++_}
-use Prim.Native.Nat.{ℕ, zero, suc, _+_, _-_, _*_}
+use Prim.Native.Nat.{ℕ, _+_, _-_, _*_}
 use lib.Dec.{eqb, ltb}
 use lib.ListN.{length, take, drop, replicate}
 use Rattle.octets.specs.Number.{putAt}
-use Rattle.store.specs.Row.{Record, recordsOf, sizeOf}
+use Rattle.store.specs.Row.{Record, recordsOf}
 
 -- how many records stand before the first with a cookie; all of them if none has it
 unfoldable pub indexOf : ℕ → List Record → ℕ

@@ -4,12 +4,11 @@ use mathlib.Core.Bool.{Bool, true, false, cond, _&&_}
 use mathlib.Core.List.{List, []}
 use Prim.Native.Nat.{ℕ, zero, suc, _+_, _-_, _*_, _%_, _<_, _≤_}
 use native.Mathlib.Omega.{arith}
-use borrow.Author.Tests.{leb-true, leb-false, eqb-true, eqb-false, eq-eqb, ne-eqb, lt-ltb, le-ltb, le-leb, lt-leb}
+use borrow.Author.Tests.{leb-true, leb-false, eqb-false, eq-eqb, ne-eqb, lt-ltb, le-ltb}
 use lib.Dec.{leb, eqb}
 use lib.ListN.{length, drop, length-drop, drop-of-length-le}
 use lib.Seq.{drop-drop, drop-length}
 use Rattle.octets.specs.Number.{getAt, putAt}
-use Rattle.text.specs.declared.number.Value.{Value}
 use Rattle.text.specs.declared.octet_word.Run.{Run}
 use Rattle.text.specs.Numeral.{digitOf, value}
 use Rattle.text.specs.OctetWord.{runOf, pairOf, judged, fillFrom, layFrom, layOf}

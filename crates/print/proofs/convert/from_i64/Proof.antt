@@ -10,7 +10,6 @@ use lib.Signed.{nonNeg, ltZ, mag}
 use mir.Syntax.{w64}
 use mir.Val.{SFits, Fits, toZ, ofZ}
 use mir.Facts.{toZ-ofZ}
-use borrow.Author.Needs.{needs}
 use Rattle.print.proofs.Signs.{less, not-negative, negative-bits, other-bits}
 use Rattle.print.proofs.convert.from_i64.Statement.{statement}
 use Rattle.print.proofs.convert.from_i64.Tie as tie

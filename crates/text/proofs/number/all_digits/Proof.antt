@@ -1,5 +1,5 @@
 -- `all_digits` meets its contract: from `i` on the answer is that of the whole text. Assumes nothing.
-use mathlib.Core.Path.{_≡_, refl, sym, _∙_, subst}
+use mathlib.Core.Path.{_≡_, refl, _∙_, subst}
 use Prim.Native.Nat.{ℕ, _-_, _<_, _≤_}
 use lib.ListN.{length, drop}
 use borrow.Author.Needs.{needs}
