@@ -1,4 +1,4 @@
-# make test: the gate.   make demo: the case program on its stored cases.
+# make test: the gate.   make demo: a small rack's story, told by the case program.
 # make lib: the C library, target/staticlib/libntp5.a; include/ntp5.h declares it.
 # make example: a main loop in C on the library.   make host: the library's tests from Rust.
 # make bench: instructions and times of each call, beside the host's own implementation; docs/PERFORMANCE.md has the figures.

@@ -18,6 +18,11 @@ mod measure;
 mod refusal;
 mod responder;
 
+// The README's example is compiled as a documentation test.
+#[cfg(doctest)]
+#[doc = include_str!("../../../README.md")]
+struct Readme;
+
 pub use client::{Chunk, Measured, Mode, Received, Table, Unusable, Verdict};
 pub use filter::{Filter, ReferenceId};
 pub use header::{sound, ClientCookie, Header, ServerCookie, INTERLEAVED, REQUEST, RESPONSE};
