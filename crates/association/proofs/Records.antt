@@ -1,5 +1,5 @@
 -- What the functions on a record's octets leave. Assumes nothing.
-use mathlib.Core.Path.{_≡_, refl, _∙_}
+use mathlib.Core.Path.{_≡_, refl, ap, _∙_}
 use mathlib.Core.Bool.{Bool, true, false, cond}
 use mathlib.Core.List.{List, [], _++_, append-nil}
 use Prim.Native.Nat.{ℕ, _-_}
@@ -11,13 +11,15 @@ use borrow.Author.Tests.{eq-eqb, ne-eqb}
 use borrow.Rule.Slice.PartMut.{putMid}
 use Rattle.octets.specs.Part.{overwrite}
 use Rattle.octets.proofs.Parts.{overwritten, pasted}
-use Rattle.association.specs.Rules.{plainReply}
-use Rattle.association.specs.Record.{headOf, octetsOf, inRange}
-use Rattle.association.specs.Step.{changeOf, filled, laid, onOctets}
-use Rattle.association.specs.declared.event.Event.{Event}
-use Rattle.association.specs.declared.event.Reply.{Reply}
-use Rattle.association.specs.declared.head.Head.{Head}
-use Rattle.association.specs.declared.head.Change.{Change}
+use Rattle.state.specs.Rules.{plainReply}
+use Rattle.state.specs.Range.{inRange}
+use Rattle.association.specs.Record.{headOf, octetsOf}
+use Rattle.state.specs.Step.{refuse, changeOf, changed}
+use Rattle.association.specs.Step.{filled, laid, onOctets}
+use Rattle.state.specs.declared.event.Event.{Event}
+use Rattle.state.specs.declared.event.Reply.{Reply}
+use Rattle.state.specs.declared.head.Head.{Head}
+use Rattle.state.specs.declared.head.Change.{Change}
 use Rattle.association.proofs.Heads.{length-octetsOf}
 
 -- the filter is overwritten whole
@@ -52,14 +54,14 @@ module _ (e : Event) (datagram l : List ℕ) where
   unfolding onOctets
   wrong-size h = rw (ne-eqb (length l) 640 h)
 
-  module _ (h : Head) (g : Bool) (n : length l ≡ 640) (el : h ≡ headOf l) (eg : g ≡ inRange h) where
-    pub out-of-range : g ≡ false → (plainReply 6, l) ≡ onOctets e datagram l
-    unfolding onOctets
-    out-of-range k = rw (eq-eqb (length l) 640 n, ← el, ← eg, k)
-
-    pub changed : g ≡ true → (d : Change) → d ≡ changeOf e h → laid d h datagram l ≡ onOctets e datagram l
-    unfolding onOctets
-    changed k d ed = rw (eq-eqb (length l) 640 n, ← el, ← eg, k, ← ed)
+  -- a number out of its range is a refusal too, and changes nothing
+  pub right-size : (h : Head) → length l ≡ 640 → h ≡ headOf l → (d : Change) → d ≡ changed e h → laid d h datagram l ≡ onOctets e datagram l
+  unfolding onOctets changed
+  right-size h n el d ed = ap (λ (c : Change). laid c h datagram l) ed ∙ rw (eq-eqb (length l) 640 n, ← el) (go (inRange h))
+    where
+      go : (b : Bool) → laid (cond b (changeOf e h) (refuse 6 h)) h datagram l ≡ cond b (laid (changeOf e h) h datagram l) (plainReply 6, l)
+      go true = refl
+      go false = refl
 
 -- the reply of what is laid is the change's
 pub laid-reply : (d : Change) (h : Head) (datagram l : List ℕ) → laid d h datagram l .0 ≡ d .reply

@@ -15,17 +15,19 @@ use Rattle.octets.specs.Part.{copyAt}
 use Rattle.octets.proofs.Parts.{overwritten}
 use Rattle.exchange.specs.Judging.{timesOf, judged, outcomeOf}
 use Rattle.exchange.specs.declared.response.Response.{Response}
-use Rattle.association.specs.Rules.{offered, advanced, plainReply, receiveReply, lookReply}
-use Rattle.association.specs.Record.{octetsOf, inRange, chunkOffset, requestAbsent, savedInRange}
-use Rattle.association.specs.Step.{refuse, done, openedHead, polledHead, sentHeadOf, usedHead, replyTo, acceptedHead, openHead, closeHead, pollHead, sentHead, receiveHead, lookHead, changeOf, laid, onOctets, takenAfter}
+use Rattle.state.specs.Rules.{offered, advanced, plainReply, receiveReply, lookReply}
+use Rattle.state.specs.Range.{inRange, chunkOffset, requestAbsent, savedInRange}
+use Rattle.association.specs.Record.{octetsOf}
+use Rattle.state.specs.Step.{refuse, done, openedHead, polledHead, sentHeadOf, usedHead, replyTo, acceptedHead, openHead, closeHead, pollHead, sentHead, receiveHead, lookHead, changeOf, takenAfter}
+use Rattle.association.specs.Step.{laid, onOctets}
 use Rattle.association.specs.Plain.{Outstanding, Exchange, Opened, Place, closed, opened, fresh, polled, reported, received, chunkOf, previous, replyOf, allTaken, placeDo, refuseAt, onRequest, isLast, sentCookie, savedServer}
 use Rattle.association.specs.Encode.{countTaken, cookieOf, outstandingOf, requestOf, savedOf, headWith, placeHead, placeFilter, encode}
-use Rattle.association.specs.declared.event.Event.{Event}
-use Rattle.association.specs.declared.event.Event.the-variants.{Open, Close, Poll, Sent, Receive, Look}
-use Rattle.association.specs.declared.event.Reply.{Reply}
-use Rattle.association.specs.declared.head.Head.{Head}
-use Rattle.association.specs.declared.head.Change.{Change}
-use Rattle.association.specs.declared.head.Filling.the-variants.{Keep}
+use Rattle.state.specs.declared.event.Event.{Event}
+use Rattle.state.specs.declared.event.Event.the-variants.{Open, Close, Poll, Sent, Receive, Look}
+use Rattle.state.specs.declared.event.Reply.{Reply}
+use Rattle.state.specs.declared.head.Head.{Head}
+use Rattle.state.specs.declared.head.Change.{Change}
+use Rattle.state.specs.declared.head.Filling.the-variants.{Keep}
 use Rattle.association.proofs.Flags.{count-first, all-first}
 use Rattle.association.proofs.Reached.{GoodPlace, GoodOpened, GoodRequest, GoodSaved, GoodOutstanding, GoodCookie, GoodEvent, GoodResponse, IsSome, onward, taken-length}
 use Rattle.association.proofs.Encoding.{count-of, count-le, count-multiple, head-encode, filter-encode, length-encode}

@@ -1,20 +1,19 @@
 // An event on the lent octets of one record.
-use crate::event::Event;
-use crate::event::Reply;
 use crate::head;
-use crate::head::Change;
-use crate::head::Filling;
-use crate::head::Head;
-use crate::range;
-use crate::step;
 use octets::part;
+use state::event::Event;
+use state::event::Reply;
+use state::head::Change;
+use state::head::Filling;
+use state::head::Head;
+use state::step;
 ghost use mathlib.Core.Path.{_≡_};
 ghost use mathlib.Core.List.{[], _++_};
 ghost use lib.ListN.{length, take, drop};
-ghost use Rattle.association.specs.declared.event.Event.the-variants.{Look};
+ghost use Rattle.state.specs.declared.event.Event.the-variants.{Look};
 ghost use Rattle.association.specs.Step.{filled, laid, onOctets};
 
-// Loads the record and tests its numbers; a refusal changes nothing.
+// Loads the record; a refusal changes nothing.
 pub fn apply(octets: &mut [u8], event: Event, datagram: &[u8]) -> Reply
     ensures { λ r. ⌜ (r, now (octets .exit)) ≡ onOctets event (now (datagram .entry)) (now (octets .entry)) ⌝ }
 {
@@ -22,9 +21,6 @@ pub fn apply(octets: &mut [u8], event: Event, datagram: &[u8]) -> Reply
         return step::plain_reply(6);
     }
     let h = head::load(octets);
-    if !range::in_range(h) {
-        return step::plain_reply(6);
-    }
     let change = step::change_of(event, h);
     lay(octets, change, h, datagram)
 }
@@ -37,10 +33,7 @@ pub fn look(octets: &[u8]) -> Reply
         return step::plain_reply(6);
     }
     let h = head::load(octets);
-    if !range::in_range(h) {
-        return step::plain_reply(6);
-    }
-    let change = step::look(h);
+    let change = step::look_at(h);
     change.reply
 }
 

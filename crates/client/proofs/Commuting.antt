@@ -8,12 +8,12 @@ use borrow.Author.Tests.{ltb-true, ltb-false, eq-eqb}
 use lib.Dec.{eqb, ltb}
 use lib.ListN.{getD, set}
 use lib.Seq.{getD-set-other, set-comm}
-use Rattle.association.specs.Rules.{plainReply}
+use Rattle.state.specs.Rules.{plainReply}
 use Rattle.association.specs.Plain.{Place, closed, placeDo}
 use Rattle.association.specs.Encode.{placeFilter}
-use Rattle.association.specs.declared.event.Event.{Event}
-use Rattle.association.specs.declared.event.Event.the-variants.{Look}
-use Rattle.association.specs.declared.event.Reply.{Reply}
+use Rattle.state.specs.declared.event.Event.{Event}
+use Rattle.state.specs.declared.event.Event.the-variants.{Look}
+use Rattle.state.specs.declared.event.Reply.{Reply}
 use Rattle.order.specs.Order.{Independent}
 use Rattle.client.specs.Call.{Typed, Answer, Form, every, one, look, some, formOf, bit, namesForm, names}
 use Rattle.client.specs.Select.{Seen, verdictFor}

@@ -9,12 +9,12 @@ use borrow.Author.Tests.{eq-eqb, ne-eqb, leb-true, leb-false}
 use lib.Dec.{eqb, leb}
 use Rattle.filter.specs.Positions.{positions}
 use Rattle.filter.specs.Filter.{containsAll}
-use Rattle.association.specs.Rules.{lookReply}
+use Rattle.state.specs.Rules.{lookReply}
 use Rattle.association.specs.Plain.{Place, allTaken, placeDo}
-use Rattle.association.specs.declared.event.Event.the-variants.{Look}
-use Rattle.association.specs.declared.event.Reply.{Reply}
+use Rattle.state.specs.declared.event.Event.the-variants.{Look}
+use Rattle.state.specs.declared.event.Reply.{Reply}
 use Rattle.association.proofs.Flags.{all-first}
-use Rattle.association.proofs.Chunks.{chunk-size}
+use Rattle.state.proofs.Chunks.{chunk-size}
 use Rattle.association.proofs.Reached.{GoodPlace, GoodOpened}
 use Rattle.association.proofs.Encoding.{count-of, count-le}
 use Rattle.order.specs.Order.{after}

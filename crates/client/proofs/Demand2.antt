@@ -17,10 +17,10 @@ use Rattle.exchange.specs.Response.{responseOf}
 use Rattle.exchange.proofs.Responses.{response-sound, response-fields, response-t4}
 use Rattle.header.specs.declared.ClientCookie.{ClientCookie}
 use Rattle.exchange.specs.declared.response.Response.{Response}
-use Rattle.association.specs.Rules.{plainReply}
+use Rattle.state.specs.Rules.{plainReply}
 use Rattle.association.specs.Plain.{Outstanding, Opened, Place, closed, opened, received, replyOf, placeDo}
-use Rattle.association.specs.declared.event.Event.the-variants.{Receive}
-use Rattle.association.specs.declared.event.Reply.{Reply}
+use Rattle.state.specs.declared.event.Event.the-variants.{Receive}
+use Rattle.state.specs.declared.event.Reply.{Reply}
 use Rattle.association.proofs.Reached.{by-test, by-request, good-step}
 use Rattle.order.specs.Order.{after}
 use Rattle.client.specs.Call.{receive, Answer, plainAnswer, acceptedAnswer, receiveAnswer}

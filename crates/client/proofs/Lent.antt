@@ -9,12 +9,12 @@ use borrow.Rule.Slice.PartMut.{putMid}
 use lib.Dec.{eqb, ltb}
 use lib.ListN.{length, take, drop, length-drop}
 use lib.Seq.{drop-drop, drop-at, take-add, length-take-le}
-use Rattle.association.specs.Rules.{plainReply}
+use Rattle.state.specs.Rules.{plainReply}
 use Rattle.association.specs.Step.{onOctets}
-use Rattle.association.specs.declared.event.Event.{Event}
-use Rattle.association.specs.declared.event.Reply.{Reply}
+use Rattle.state.specs.declared.event.Event.{Event}
+use Rattle.state.specs.declared.event.Reply.{Reply}
 use Rattle.association.proofs.Reached.{by-test}
-use Rattle.association.proofs.Ranges.{and-left, and-right}
+use Rattle.state.proofs.Ranges.{and-left, and-right}
 use Rattle.client.specs.Octets.{part, putBack, atOctets, tableOctets}
 
 -- a record, as a part of a slice is made

@@ -14,7 +14,7 @@ use Rattle.filter.specs.Calls.{addId}
 use Rattle.filter.specs.Filter.{addAll, containsAll}
 use Rattle.filter.specs.Positions.{positions}
 use Rattle.exchange.specs.Request.{requestWritten}
-use Rattle.association.specs.declared.event.Reply.{Reply}
+use Rattle.state.specs.declared.event.Reply.{Reply}
 use Rattle.client.specs.Call.{Answer, plainAnswer, writtenAnswer, verdictAnswer, acceptedAnswer, pollAnswer, receiveAnswer, clearTable}
 use Rattle.client.specs.Select.{Seen, verdictFor, allSelected, inRangeSeen, completeSeen, publishedFilter}
 use Rattle.client.specs.Octets.{tableOctets, seenOctets, clearOctets, publishOctets, stepOctets}

@@ -7,14 +7,16 @@ use native.Mathlib.Omega.{arith}
 use borrow.Author.Tests.{eqb-false, ltb-false}
 use lib.Dec.{eqb, ltb}
 use lib.ListN.{length}
-use Rattle.association.specs.Record.{headOf, inRange, recordOctets}
-use Rattle.association.specs.Step.{pollHead, onOctets}
-use Rattle.association.specs.declared.event.Event.the-variants.{Poll}
-use Rattle.association.specs.declared.event.Reply.{Reply}
-use Rattle.association.specs.declared.head.Head.{Head}
-use Rattle.association.specs.declared.head.Change.{Change}
+use Rattle.state.specs.Range.{inRange}
+use Rattle.association.specs.Record.{headOf, recordOctets}
+use Rattle.state.specs.Step.{pollHead}
+use Rattle.association.specs.Step.{onOctets}
+use Rattle.state.specs.declared.event.Event.the-variants.{Poll}
+use Rattle.state.specs.declared.event.Reply.{Reply}
+use Rattle.state.specs.declared.head.Head.{Head}
+use Rattle.state.specs.declared.head.Change.{Change}
 use Rattle.association.proofs.Reached.{by-test}
-use Rattle.association.proofs.Ranges.{and-right, open-ranges}
+use Rattle.state.proofs.Ranges.{and-right, open-ranges}
 use Rattle.association.proofs.Records.{laid-reply}
 use Rattle.client.specs.Octets.{tableOctets, part, atOctets}
 

@@ -19,12 +19,12 @@ use Rattle.chain.specs.declared.find.Occurrence.{Occurrence}
 use Rattle.chain.specs.declared.find.Occurrence.the-variants.{At, Absent}
 use Rattle.chain.proofs.Fields.{fields-inside, first-is}
 use Rattle.exchange.specs.Response.{withChunk, refusedResponse, responseOf}
-use Rattle.association.specs.Rules.{plainReply}
+use Rattle.state.specs.Rules.{plainReply}
 use Rattle.association.specs.Plain.{Place, closed, placeDo}
 use Rattle.association.specs.Encode.{placeFilter}
-use Rattle.association.specs.declared.event.Event.{Event}
-use Rattle.association.specs.declared.event.Event.the-variants.{Look}
-use Rattle.association.specs.declared.event.Reply.{Reply}
+use Rattle.state.specs.declared.event.Event.{Event}
+use Rattle.state.specs.declared.event.Event.the-variants.{Look}
+use Rattle.state.specs.declared.event.Reply.{Reply}
 use Rattle.association.proofs.Reached.{GoodEvent, GoodResponse, good-step}
 use Rattle.association.proofs.Encoding.{filter-encode}
 use Rattle.association.proofs.Simulate.{simulated}

@@ -22,13 +22,13 @@ use Rattle.exchange.specs.Response.{responseOf}
 use Rattle.exchange.specs.Judging.{outcomeOf}
 use Rattle.exchange.specs.declared.response.Response.{Response}
 use Rattle.exchange.specs.declared.request.Asked.{Asked}
-use Rattle.association.specs.Rules.{offered, plainReply}
+use Rattle.state.specs.Rules.{offered, plainReply}
 use Rattle.association.specs.Plain.{Outstanding, Opened, Place, closed, opened, fresh, polled, reported, received, replyOf, chunkOf, placeDo, isLast, sentCookie}
 use Rattle.association.specs.Encode.{countTaken}
-use Rattle.association.specs.declared.event.Event.the-variants.{Open, Close, Poll, Sent, Receive}
-use Rattle.association.specs.declared.event.Reply.{Reply}
+use Rattle.state.specs.declared.event.Event.the-variants.{Open, Close, Poll, Sent, Receive}
+use Rattle.state.specs.declared.event.Reply.{Reply}
 use Rattle.association.proofs.Flags.{count-first}
-use Rattle.association.proofs.Chunks.{chunk-size}
+use Rattle.state.proofs.Chunks.{chunk-size}
 use Rattle.association.proofs.Reached.{GoodPlace, GoodOpened, GoodRequest, GoodResponse, by-test, by-request, outstanding-good, onward, taken-length, length-chunk}
 use Rattle.association.proofs.Encoding.{count-of}
 use Rattle.client.specs.Call.{Call, openOne, closeOne, poll, sent, receive, Answer, plainAnswer, refusalAnswer, pollAnswer, receiveAnswer}

@@ -2,8 +2,8 @@
 use mathlib.Core.Bool.{Bool, true, false, cond, not}
 use mathlib.Core.List.{List, []}
 use Prim.Native.Nat.{ℕ}
-use Rattle.association.specs.Rules.{offsetOf, delayOf}
-use Rattle.association.specs.declared.event.Reply.{Reply}
+use Rattle.state.specs.Rules.{offsetOf, delayOf}
+use Rattle.state.specs.declared.event.Reply.{Reply}
 use Rattle.client.specs.Call.{Answer, plainAnswer, writtenAnswer, verdictAnswer}
 use Rattle.client.specs.Select.{Seen, allSelected, inRangeSeen, completeSeen}
 use Rattle.client.specs.declared.Mode.{Mode}

@@ -10,10 +10,10 @@ use mir.Val.{SFits}
 use Rattle.octets.specs.Number.{Octets}
 use Rattle.exchange.specs.Request.{pollOctets}
 use Rattle.exchange.specs.Response.{responseOf}
-use Rattle.association.specs.Rules.{offsetOf, delayOf}
-use Rattle.association.specs.declared.event.Event.{Event}
-use Rattle.association.specs.declared.event.Event.the-variants.{Open, Close, Poll, Sent, Receive}
-use Rattle.association.specs.declared.event.Reply.{Reply}
+use Rattle.state.specs.Rules.{offsetOf, delayOf}
+use Rattle.state.specs.declared.event.Event.{Event}
+use Rattle.state.specs.declared.event.Event.the-variants.{Open, Close, Poll, Sent, Receive}
+use Rattle.state.specs.declared.event.Reply.{Reply}
 
 -- each call names its sender by number; `out` is an output buffer as lent
 pub data Call : Type 0 where

@@ -4,11 +4,11 @@ use mathlib.Core.List.{List, [], _++_}
 use Prim.Native.Nat.{ℕ, _+_, _*_}
 use lib.Dec.{eqb, ltb}
 use lib.ListN.{length, take, drop, replicate}
-use Rattle.association.specs.Rules.{plainReply}
+use Rattle.state.specs.Rules.{plainReply}
 use Rattle.association.specs.Step.{onOctets}
-use Rattle.association.specs.declared.event.Event.{Event}
-use Rattle.association.specs.declared.event.Event.the-variants.{Look}
-use Rattle.association.specs.declared.event.Reply.{Reply}
+use Rattle.state.specs.declared.event.Event.{Event}
+use Rattle.state.specs.declared.event.Event.the-variants.{Look}
+use Rattle.state.specs.declared.event.Reply.{Reply}
 use Rattle.client.specs.Call.{Call, Answer, plainAnswer, Form, every, one, look, some, formOf}
 use Rattle.client.specs.Select.{Seen, verdictFor, publishFor}
 

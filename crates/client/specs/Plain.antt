@@ -4,12 +4,12 @@ use mathlib.Core.List.{List, [], _∷_, _++_}
 use Prim.Native.Nat.{ℕ}
 use lib.Dec.{ltb}
 use lib.ListN.{getD, set, replicate}
-use Rattle.association.specs.Rules.{plainReply}
+use Rattle.state.specs.Rules.{plainReply}
 use Rattle.association.specs.Plain.{Place, closed, placeDo}
 use Rattle.association.specs.Encode.{placeFilter, encode}
-use Rattle.association.specs.declared.event.Event.{Event}
-use Rattle.association.specs.declared.event.Event.the-variants.{Look}
-use Rattle.association.specs.declared.event.Reply.{Reply}
+use Rattle.state.specs.declared.event.Event.{Event}
+use Rattle.state.specs.declared.event.Event.the-variants.{Look}
+use Rattle.state.specs.declared.event.Reply.{Reply}
 use Rattle.client.specs.Call.{Call, Answer, plainAnswer, Form, every, one, look, some, formOf}
 use Rattle.client.specs.Select.{Seen, verdictFor, publishFor}
 

@@ -3,12 +3,12 @@
 mod publishing;
 mod table;
 
-use association::event::Event;
-use association::event::Reply;
 use exchange::request;
 use exchange::response;
 use header::ClientCookie;
 use octets::part;
+use state::event::Event;
+use state::event::Reply;
 ghost use mathlib.Core.Path.{_≡_};
 ghost use mathlib.Core.List.{[]};
 ghost use Rattle.client.specs.Call.{clearTable, openOne, closeOne, poll, sent, receive, loopVerdict, publish, plainAnswer};

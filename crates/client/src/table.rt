@@ -1,13 +1,13 @@
 // One association of a lent table.
-use association::event::Event;
-use association::event::Reply;
 use association::record;
-use association::step;
+use state::event::Event;
+use state::event::Reply;
+use state::step;
 ghost use mathlib.Core.Path.{_≡_};
 ghost use mathlib.Core.List.{[]};
 ghost use Prim.Native.Nat.{_<_};
 ghost use lib.ListN.{length, drop};
-ghost use Rattle.association.specs.declared.event.Event.the-variants.{Look};
+ghost use Rattle.state.specs.declared.event.Event.the-variants.{Look};
 ghost use Rattle.filter.specs.Filter.{containsAll};
 ghost use Rattle.client.specs.Octets.{part, atOctets};
 

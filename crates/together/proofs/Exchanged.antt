@@ -14,8 +14,8 @@ use Rattle.exchange.specs.declared.response.Response.{Response}
 use Rattle.exchange.proofs.Polls.{poll-offset}
 use Rattle.association.specs.Plain.{Opened, Outstanding, Place, closed, opened, received, replyOf, placeDo}
 use Rattle.association.specs.Encode.{placeFilter}
-use Rattle.association.specs.declared.event.Event.the-variants.{Receive}
-use Rattle.association.specs.declared.event.Reply.{Reply}
+use Rattle.state.specs.declared.event.Event.the-variants.{Receive}
+use Rattle.state.specs.declared.event.Reply.{Reply}
 use Rattle.association.proofs.Reached.{GoodPlace, GoodOpened}
 use Rattle.order.specs.Order.{after}
 use Rattle.client.specs.Call.{receive, Typed, Answer, receiveAnswer}

@@ -12,10 +12,10 @@ use lib.Seq.{getD-set-same}
 use Rattle.exchange.specs.Request.{pollOctets}
 use Rattle.exchange.specs.declared.request.Asked.{Asked}
 use Rattle.association.specs.Plain.{Opened, Place, closed, opened, polled as polledPlace, placeDo}
-use Rattle.association.specs.declared.event.Event.{Event}
-use Rattle.association.specs.declared.event.Event.the-variants.{Poll}
-use Rattle.association.specs.declared.event.Reply.{Reply}
-use Rattle.association.proofs.Chunks.{chunk-size}
+use Rattle.state.specs.declared.event.Event.{Event}
+use Rattle.state.specs.declared.event.Event.the-variants.{Poll}
+use Rattle.state.specs.declared.event.Reply.{Reply}
+use Rattle.state.proofs.Chunks.{chunk-size}
 use Rattle.association.proofs.Reached.{GoodPlace, GoodOpened, good-step}
 use Rattle.order.specs.Order.{TaggedCall, after, EveryCall}
 use Rattle.order.proofs.Permutations.{every-left, every-right}

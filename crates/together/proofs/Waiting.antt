@@ -10,11 +10,11 @@ use lib.Dec.{eqb, ltb}
 use lib.ListN.{length, getD, set}
 use lib.Seq.{getD-set-same}
 use Rattle.exchange.specs.declared.request.Asked.{Asked}
-use Rattle.association.specs.Rules.{pollReply}
+use Rattle.state.specs.Rules.{pollReply}
 use Rattle.association.specs.Plain.{Outstanding, Opened, Place, closed, opened, polled, reported, sentCookie, isLast, placeDo}
-use Rattle.association.specs.declared.event.Event.{Event}
-use Rattle.association.specs.declared.event.Event.the-variants.{Poll, Sent}
-use Rattle.association.specs.declared.event.Reply.{Reply}
+use Rattle.state.specs.declared.event.Event.{Event}
+use Rattle.state.specs.declared.event.Event.the-variants.{Poll, Sent}
+use Rattle.state.specs.declared.event.Reply.{Reply}
 use Rattle.association.proofs.Reached.{by-test, by-request}
 use Rattle.order.specs.Order.{TaggedCall, after, EveryCall}
 use Rattle.client.specs.Call.{Call, clearTable, openOne, closeOne, poll, sent, receive, loopVerdict, publish, Typed}

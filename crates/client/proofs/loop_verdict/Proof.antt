@@ -8,9 +8,9 @@ use lib.ListN.{drop}
 use Rattle.filter.specs.Positions.{positions}
 use Rattle.filter.specs.Filter.{containsAll}
 use Rattle.filter.proofs.Digits.{idOf-whole}
-use Rattle.association.specs.declared.event.Reply.{Reply}
+use Rattle.state.specs.declared.event.Reply.{Reply}
 use Rattle.client.specs.Call.{Answer, plainAnswer}
-use Rattle.association.specs.declared.event.Event.the-variants.{Look}
+use Rattle.state.specs.declared.event.Event.the-variants.{Look}
 use Rattle.client.specs.Octets.{part, seenOctets}
 use Rattle.client.proofs.Lent.{inside}
 use Rattle.client.proofs.Returned.{verdict-id, verdict-refused, verdict-incomplete, verdict-loop, verdict-clear}

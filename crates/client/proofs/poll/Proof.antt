@@ -10,8 +10,8 @@ use mir.Syntax.{w8}
 use mir.Val.{toZ, ofZ}
 use mir.Facts.{toZ-ofZ}
 use Rattle.exchange.specs.Request.{requestWritten}
-use Rattle.association.specs.declared.event.Reply.{Reply}
-use Rattle.association.specs.declared.event.Event.the-variants.{Poll}
+use Rattle.state.specs.declared.event.Reply.{Reply}
+use Rattle.state.specs.declared.event.Event.the-variants.{Poll}
 use Rattle.client.specs.Call.{Answer, writtenAnswer, pollAnswer}
 use Rattle.client.specs.Octets.{atOctets}
 use Rattle.client.specs.Answers.{isInterleaved}

@@ -4,8 +4,8 @@ use mathlib.Core.List.{List, []}
 use Prim.Native.Nat.{ℕ}
 use Rattle.exchange.specs.Response.{responseOf}
 use Rattle.exchange.specs.declared.response.Response.{Response}
-use Rattle.association.specs.declared.event.Reply.{Reply}
-use Rattle.association.specs.declared.event.Event.the-variants.{Receive}
+use Rattle.state.specs.declared.event.Reply.{Reply}
+use Rattle.state.specs.declared.event.Event.the-variants.{Receive}
 use Rattle.client.specs.Call.{Answer, receiveAnswer}
 use Rattle.client.specs.Octets.{atOctets}
 use Rattle.client.specs.declared.Measured.{Measured}

@@ -3,7 +3,7 @@ use mathlib.Core.Path.{_≡_, refl, sym, ap, _∙_}
 use mathlib.Core.Bool.{not, _&&_}
 use Prim.Native.Nat.{_+_, _-_, _≤_, _/_, _^_}
 use native.Mathlib.Omega.{arith}
-use Rattle.association.specs.declared.event.Reply.{Reply}
+use Rattle.state.specs.declared.event.Reply.{Reply}
 use Rattle.client.specs.Octets.{seenOctets}
 use Rattle.client.specs.Select.{allSelected, inRangeSeen, completeSeen}
 use Rattle.client.proofs.Selection.{Left, bit-of, left-told, left-passed, left-end, halved, refused-six, refused-seven, refused-none}
