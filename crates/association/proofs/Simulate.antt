@@ -18,7 +18,7 @@ use Rattle.exchange.specs.declared.response.Response.{Response}
 use Rattle.state.specs.Rules.{offered, advanced, plainReply, receiveReply, lookReply}
 use Rattle.state.specs.Range.{inRange, chunkOffset, requestAbsent, savedInRange}
 use Rattle.association.specs.Record.{octetsOf}
-use Rattle.state.specs.Step.{refuse, done, openedHead, polledHead, sentHeadOf, usedHead, replyTo, acceptedHead, openHead, closeHead, pollHead, sentHead, receiveHead, lookHead, changeOf, takenAfter}
+use Rattle.state.specs.Step.{refuse, done, openedHead, polledHead, sentHeadOf, usedHead, replyTo, acceptedHead, openHead, closeHead, pollHead, sentHead, receiveHead, lookHead, changeOf, takenAfter, changed}
 use Rattle.association.specs.Step.{laid, onOctets}
 use Rattle.association.specs.Plain.{Outstanding, Exchange, Opened, Place, closed, opened, fresh, polled, reported, received, chunkOf, previous, replyOf, allTaken, placeDo, refuseAt, onRequest, isLast, sentCookie, savedServer}
 use Rattle.association.specs.Encode.{countTaken, cookieOf, outstandingOf, requestOf, savedOf, headWith, placeHead, placeFilter, encode}
@@ -253,7 +253,7 @@ module _ (datagram : List ℕ) where
 -- an event on a record's octets is the event on the place
 pub simulated : (e : Event) (datagram : List ℕ) (p : Place) → GoodEvent e datagram → GoodPlace p
     → onOctets e datagram (encode p) ≡ (placeDo e datagram p .0, encode (placeDo e datagram p .1))
-unfolding onOctets
+unfolding onOctets changed
 simulated e datagram p h g =
     rw (eq-eqb _ _ (length-encode p g), head-encode p g, place-in p g) (go e h)
   where

@@ -9,14 +9,14 @@ use lib.Dec.{eqb, ltb}
 use lib.ListN.{length}
 use Rattle.state.specs.Range.{inRange}
 use Rattle.association.specs.Record.{headOf, recordOctets}
-use Rattle.state.specs.Step.{pollHead}
+use Rattle.state.specs.Step.{pollHead, changed}
 use Rattle.association.specs.Step.{onOctets}
 use Rattle.state.specs.declared.event.Event.the-variants.{Poll}
 use Rattle.state.specs.declared.event.Reply.{Reply}
 use Rattle.state.specs.declared.head.Head.{Head}
 use Rattle.state.specs.declared.head.Change.{Change}
 use Rattle.association.proofs.Reached.{by-test}
-use Rattle.state.proofs.Ranges.{and-right, open-ranges}
+use Rattle.state.proofs.Ranges.{open-ranges}
 use Rattle.association.proofs.Records.{laid-reply}
 use Rattle.client.specs.Octets.{tableOctets, part, atOctets}
 
@@ -38,10 +38,12 @@ module _ (cookie : ℕ) (interleaved : Bool) (room : ℕ) where
       (λ v z. let o = open-ranges h g (eqb-false _ _ t) in record { low = o .chunk-low; high = o .chunk-high; fits = ltb-false _ _ v })))
 
   record-room : (datagram l : List ℕ) → Fits (onOctets (Poll (record { 0 = cookie }) interleaved room) datagram l .0)
-  unfolding onOctets
+  unfolding onOctets changed
   record-room datagram l =
-      by-test (λ (w : Reply × List ℕ). Fits (w .0)) (eqb (length l) recordOctets && inRange (headOf l))
-      (λ t. rw (laid-reply (pollHead cookie interleaved room (headOf l)) (headOf l) datagram l) (head-room (headOf l) (and-right (eqb (length l) recordOctets) (inRange (headOf l)) t)))
+      let e = Poll (record { 0 = cookie }) interleaved room in
+      by-test (λ (w : Reply × List ℕ). Fits (w .0)) (eqb (length l) recordOctets)
+      (λ t. rw (laid-reply (changed e (headOf l)) (headOf l) datagram l)
+      (by-test (λ (d : Change). Fits (d .reply)) (inRange (headOf l)) (head-room (headOf l)) (λ u z. absurd (omega arith))))
       (λ t z. absurd (omega arith))
 
   pub poll-room : (a : ℕ) (datagram t : List ℕ) → Fits (atOctets a (Poll (record { 0 = cookie }) interleaved room) datagram t .0)
