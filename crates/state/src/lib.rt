@@ -2,4 +2,5 @@
 pub mod event;
 pub mod head;
 pub mod range;
+pub mod receive;
 pub mod step;

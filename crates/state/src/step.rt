@@ -6,21 +6,19 @@ use crate::head::Change;
 use crate::head::Filling;
 use crate::head::Head;
 use crate::head::Request;
-use crate::head::Saved;
 use crate::range;
-use exchange::judging;
+use crate::receive;
 use exchange::judging::Times;
 use exchange::request::Asked;
-use exchange::response::Response;
 use header::ClientCookie;
 use header::ServerCookie;
 ghost use mathlib.Core.Path.{_≡_};
 ghost use mathlib.Core.Bool.{true};
-ghost use Prim.Native.Nat.{_+_, _≤_};
+ghost use Prim.Native.Nat.{_+_};
 ghost use Rattle.state.specs.declared.event.Event.the-variants.{Look};
-ghost use Rattle.state.specs.Rules.{advanced, plainReply};
+ghost use Rattle.state.specs.Rules.{plainReply};
 ghost use Rattle.state.specs.Range.{inRange};
-ghost use Rattle.state.specs.Step.{refuse, done, openHead, closeHead, pollHead, sentServer, sentHead, usedHead, takenAfter, replyTo, acceptedHead, receiveHead, lookHead, changeOf, changed};
+ghost use Rattle.state.specs.Step.{refuse, done, openHead, closeHead, pollHead, sentServer, sentHead, lookHead, changeOf, changed};
 
 pub fn plain_reply(refusal: u8) -> Reply
     ensures { λ r. ⌜ r ≡ plainReply refusal ⌝ }
@@ -45,7 +43,7 @@ pub fn plain_reply(refusal: u8) -> Reply
     }
 }
 
-fn refuse(refusal: u8, h: Head) -> Change
+pub(crate) fn refuse(refusal: u8, h: Head) -> Change
     ensures { λ r. ⌜ r ≡ refuse refusal h ⌝ }
 {
     Change {
@@ -160,107 +158,6 @@ fn sent(h: Head, t1: u64) -> Change
     done(reported, Filling::Keep)
 }
 
-fn advance(next: u64, chunk: u64) -> u64
-    requires { ⌜ next + chunk ≤ 1024 ⌝ }
-    ensures { λ n. ⌜ n ≡ advanced next chunk ⌝ }
-{
-    if next + chunk == 512 { 0 } else { next + chunk }
-}
-
-fn taken_after(taken: u64, chunk: u64) -> u64
-    requires { ⌜ taken + chunk ≤ 1024 ⌝ }
-    ensures { λ n. ⌜ n ≡ takenAfter taken chunk ⌝ }
-{
-    if taken == 512 { 512 } else { taken + chunk }
-}
-
-fn used_head(h: Head, r: Response) -> Head
-    ensures { λ u. ⌜ u ≡ usedHead r (h .next) (h .taken) h ⌝ }
-{
-    let request = h.request;
-    let server = r.server;
-    let none = Request {
-        server: ServerCookie(0),
-        offset: 0,
-        t1: 0,
-    };
-    let saved = Saved {
-        timescale: r.timescale as u64,
-        t1: request.t1,
-        t2: r.receive,
-        t3: r.transmit,
-        t4: r.t4,
-        server,
-    };
-    let mut used = h;
-    used.state = 1;
-    used.outstanding = 0;
-    used.request = none;
-    used.saved = saved;
-    used
-}
-
-fn reply_to(h: Head, r: Response) -> Reply
-    ensures { λ a. ⌜ a ≡ replyTo r h ⌝ }
-{
-    let request = h.request;
-    let saved = h.saved;
-    let times = judging::times_of(r, request.t1, saved.t1, saved.t2, saved.t4);
-    let mut reply = plain_reply(0);
-    reply.judgement = judging::judge(r, h.timescale, saved.timescale, times);
-    reply.outcome = judging::outcome_of(r, h.chunk);
-    reply.times = times;
-    reply
-}
-
-fn accept(h: Head, r: Response) -> Change
-    requires { ⌜ (h .next + h .chunk ≤ 1024) × (h .taken + h .chunk ≤ 1024) ⌝ }
-    ensures { λ d. ⌜ d ≡ acceptedHead r h ⌝ }
-{
-    let reply = reply_to(h, r);
-    let mut used = used_head(h, r);
-    if judging::outcome_of(r, h.chunk) == 1 {
-        used.next = advance(h.next, h.chunk);
-        used.taken = taken_after(h.taken, h.chunk);
-        return Change {
-            reply,
-            head: used,
-            filling: Filling::Take(r.start),
-        };
-    }
-    Change {
-        reply,
-        head: used,
-        filling: Filling::Keep,
-    }
-}
-
-fn receive(h: Head, r: Response) -> Change
-    requires { ⌜ inRange h ≡ true ⌝ }
-    ensures { λ d. ⌜ d ≡ receiveHead r h ⌝ }
-{
-    let last = h.last;
-    let request = h.request;
-    let client = r.client;
-    let server = request.server;
-    if r.t4 == 0 {
-        return refuse(6, h);
-    }
-    if h.state == 0 {
-        return refuse(7, h);
-    }
-    if r.refusal != 0 {
-        return refuse(r.refusal, h);
-    }
-    if (h.outstanding == 0) | (client.0 != last.0) {
-        return refuse(9, h);
-    }
-    if r.interleaved & (server.0 == 0) {
-        return refuse(10, h);
-    }
-    accept(h, r)
-}
-
 fn look(h: Head) -> Change
     ensures { λ r. ⌜ r ≡ lookHead h ⌝ }
 {
@@ -285,7 +182,7 @@ fn change_in_range(event: Event, h: Head) -> Change
         Event::Close => close(h),
         Event::Poll(cookie, interleaved, room) => poll(h, cookie, interleaved, room),
         Event::Sent(t1) => sent(h, t1),
-        Event::Receive(r) => receive(h, r),
+        Event::Receive(r) => receive::receive(h, r),
         Event::Look => look(h),
     }
 }

@@ -2,8 +2,8 @@
 use mathlib.Core.Path.{sym, _∙_}
 use borrow.Author.Tests.{eq-eqb, ne-eqb}
 use borrow.Author.Needs.{needs}
-use Rattle.state.proofs.step.accept.Statement.{statement}
-use Rattle.state.proofs.step.accept.Tie as tie
+use Rattle.state.proofs.receive.accept.Statement.{statement}
+use Rattle.state.proofs.receive.accept.Tie as tie
 
 reply-to-requires : tie.Need-reply-to-requires
 reply-to-requires c κs = search needs

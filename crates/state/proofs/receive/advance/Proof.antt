@@ -1,8 +1,8 @@
 -- `advance` meets its contract: the test says whether the end is reached. Assumes nothing.
 use borrow.Author.Tests.{eq-eqb, ne-eqb}
 use borrow.Author.Needs.{needs}
-use Rattle.state.proofs.step.advance.Statement.{statement}
-use Rattle.state.proofs.step.advance.Tie as tie
+use Rattle.state.proofs.receive.advance.Statement.{statement}
+use Rattle.state.proofs.receive.advance.Tie as tie
 
 add-if1 : tie.Need-add-if1
 add-if1 c = search needs

@@ -1,8 +1,8 @@
 -- `taken_after` meets its contract: the test says whether all are taken. Assumes nothing.
 use borrow.Author.Tests.{eq-eqb, ne-eqb}
 use borrow.Author.Needs.{needs}
-use Rattle.state.proofs.step.taken_after.Statement.{statement}
-use Rattle.state.proofs.step.taken_after.Tie as tie
+use Rattle.state.proofs.receive.taken_after.Statement.{statement}
+use Rattle.state.proofs.receive.taken_after.Tie as tie
 
 add-result : tie.Need-add-result
 add-result c = search needs

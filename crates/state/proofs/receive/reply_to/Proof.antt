@@ -1,7 +1,7 @@
 -- `reply_to` meets its contract: its parts are what the callees say. Assumes nothing.
 use borrow.Author.Needs.{needs}
-use Rattle.state.proofs.step.reply_to.Statement.{statement}
-use Rattle.state.proofs.step.reply_to.Tie as tie
+use Rattle.state.proofs.receive.reply_to.Statement.{statement}
+use Rattle.state.proofs.receive.reply_to.Tie as tie
 
 times-of-requires : tie.Need-times-of-requires
 times-of-requires c κs = search needs

@@ -4,8 +4,8 @@ use borrow.Author.Tests.{eq-eqb, ne-eqb}
 use Rattle.state.proofs.Ranges.{open-ranges}
 use Rattle.state.specs.Step.{receiveHead}
 use borrow.Author.Needs.{needs}
-use Rattle.state.proofs.step.receive.Statement.{statement}
-use Rattle.state.proofs.step.receive.Tie as tie
+use Rattle.state.proofs.receive.receive.Statement.{statement}
+use Rattle.state.proofs.receive.receive.Tie as tie
 
 refuse-requires : tie.Need-refuse-requires
 refuse-requires c κs = search needs
