@@ -7,6 +7,7 @@ pub mod Changed
 pub mod Kept
 pub mod Joins
 pub mod Steps
+mod Sames
 pub mod Walks
 pub mod Shifts
 pub mod Reports

@@ -1,18 +1,16 @@
 -- A walk over the records of a store, record by record: what is left from a place on. Assumes nothing.
-use mathlib.Core.Path.{_≡_, refl, sym, ap, _∙_}
+use mathlib.Core.Path.{_≡_, refl, ap, _∙_}
 use mathlib.Core.Bool.{Bool, true, false, cond, not, _&&_, _||_}
 use mathlib.Core.List.{List, [], _∷_}
-use Prim.Native.Nat.{ℕ, suc, _+_, _-_, _*_, _/_, _%_, _<_, _≤_}
-use native.Mathlib.Nat.{add-zero, sub-zero}
+use Prim.Native.Nat.{ℕ, suc, _+_, _-_, _*_, _/_, _<_, _≤_}
+use native.Mathlib.Nat.{add-zero, sub-zero, zero-add}
 use native.Mathlib.Omega.{arith}
-use borrow.Author.Tests.{eq-eqb, ne-eqb, ltb-true, ltb-false, lt-ltb, le-ltb}
-use lib.Dec.{eqb, ltb}
+use borrow.Author.Tests.{eq-eqb, ne-eqb}
+use lib.Dec.{eqb}
 use lib.ListN.{length}
 use Rattle.octets.specs.Number.{num}
 use Rattle.store.specs.Row.{Record, held, recordsFrom, allUnused, soundRecords, wrongSize, wrongStore}
-use Rattle.store.specs.Place.{indexOf}
-use Rattle.store.proofs.Rows.{held-index}
-use Rattle.store.proofs.Written.{length-records}
+use Rattle.store.specs.Place.{indexOf, placeOf}
 
 -- the records from a place on
 abbrev pub rest : List ℕ → ℕ → List Record
@@ -36,6 +34,11 @@ rest-end s at h = let e : (length s - at) / 16 ≡ 0 = omega arith in rw e
 -- the place of a cookie, looked for from a place on
 abbrev pub placeFrom : List ℕ → ℕ → ℕ → ℕ
 placeFrom s c at = at + 16 * indexOf c (rest s at)
+
+-- from the start on
+pub place-start : (s : List ℕ) (c : ℕ) → placeOf s c ≡ placeFrom s c 0
+unfolding placeOf
+place-start s c = rw (sub-zero, zero-add)
 
 -- the record at the place has the cookie
 pub place-here : (s : List ℕ) (c at : ℕ) → at + 16 ≤ length s → num s at 8 ≡ c → placeFrom s c at ≡ at
@@ -86,22 +89,20 @@ sound-gap r rs e = rw (eq-eqb (r .cookie) 0 e) (go (eqb (r .time) 0))
 pub sound-zero : (s : List ℕ) (at : ℕ) → at + 16 ≤ length s → num s at 8 ≡ 0 → soundRecords (rest s at) ≡ allUnused (rest s at)
 sound-zero s at h e = rw (rest-next s at h) (sound-gap (recordAt s at) (rest s (at + 16)) e)
 
--- a cookie is held from a place on where its place is before the end
-pub held-from : (s : List ℕ) (c at : ℕ) → at ≤ length s → (length s - at) % 16 ≡ 0 → held c (rest s at) ≡ ltb (placeFrom s c at) (length s)
-held-from s c at h m =
-    let k = length-records ((length s - at) / 16) s at in
-    held-index c (rest s at) ∙ go (ltb (indexOf c (rest s at)) (length (rest s at))) refl k
-  where
-    go : (b : Bool) → ltb (indexOf c (rest s at)) (length (rest s at)) ≡ b → length (rest s at) ≡ (length s - at) / 16 → b ≡ ltb (placeFrom s c at) (length s)
-    go true e k = let l = ltb-true (indexOf c (rest s at)) (length (rest s at)) e in sym (lt-ltb (placeFrom s c at) (length s) (omega arith))
-    go false e k = let l = ltb-false (indexOf c (rest s at)) (length (rest s at)) e in sym (le-ltb (placeFrom s c at) (length s) (omega arith))
+-- one record has it, or one of the rest
+pub held-next : (s : List ℕ) (c at : ℕ) (t : Bool) → at + 16 ≤ length s → t ≡ eqb (num s at 8) c → held c (rest s at) ≡ t || held c (rest s (at + 16))
+unfolding held
+held-next s c at t h e = ap (held c) (rest-next s at h) ∙ rw (← e)
+
+pub held-end : (s : List ℕ) (c at : ℕ) → length s < at + 16 → held c (rest s at) ≡ false
+unfolding held
+held-end s c at h = ap (held c) (rest-end s at h)
 
 -- a used record is sound where its cookie stands in none after it
-pub sound-next : (s : List ℕ) (at c p : ℕ) → at + 16 ≤ length s → (length s - (at + 16)) % 16 ≡ 0 → c ≡ num s at 8 → (c ≡ 0 → ⊥) → p ≡ placeFrom s c (at + 16)
-    → soundRecords (rest s at) ≡ not (ltb p (length s)) && soundRecords (rest s (at + 16))
+pub sound-next : (s : List ℕ) (at : ℕ) (t : Bool) → at + 16 ≤ length s → (num s at 8 ≡ 0 → ⊥) → t ≡ held (num s at 8) (rest s (at + 16))
+    → soundRecords (rest s at) ≡ not t && soundRecords (rest s (at + 16))
 unfolding soundRecords
-sound-next s at c p h m ec z ep =
-    rw (rest-next s at h, ← ec, ne-eqb c 0 z, held-from s c (at + 16) h m, ← ep)
+sound-next s at t h z e = rw (rest-next s at h, ne-eqb (num s at 8) 0 z, ← e)
 
 pub sound-end : (s : List ℕ) (at : ℕ) → length s < at + 16 → soundRecords (rest s at) ≡ true
 unfolding soundRecords

@@ -1,11 +1,12 @@
 // The store part of refusal 6.
-use crate::row;
-use header::ServerCookie;
 use octets::number;
+use octets::part;
 ghost use mathlib.Core.Path.{_≡_};
-ghost use Prim.Native.Nat.{_-_, _/_, _%_, _≤_};
+ghost use Prim.Native.Nat.{_+_, _-_, _/_, _%_, _≤_};
+ghost use lib.Dec.{eqb};
 ghost use lib.ListN.{length};
-ghost use Rattle.store.specs.Row.{recordsFrom, allUnused, wrongSize, wrongStore};
+ghost use Rattle.octets.specs.Number.{num};
+ghost use Rattle.store.specs.Row.{held, recordsFrom, allUnused, wrongSize, wrongStore};
 
 // A row is 1 to 64 records.
 pub(crate) fn wrong_size(store: &[u8]) -> bool
@@ -30,6 +31,36 @@ fn unused_from(store: &[u8], from: usize) -> bool
     true
 }
 
+// Whether two records have the same cookie. Octet by octet compiles to one comparison; numbers would be turned round first.
+fn same_cookie(store: &[u8], a: usize, b: usize) -> bool
+    requires { ⌜ (a + 8 ≤ length (now store)) × (b + 8 ≤ length (now store)) ⌝ }
+    ensures { λ r. ⌜ r ≡ eqb (num (now (store .entry)) a 8) (num (now (store .entry)) b 8) ⌝ }
+{
+    (store[a] == store[b])
+        & (store[a + 1] == store[b + 1])
+        & (store[a + 2] == store[b + 2])
+        & (store[a + 3] == store[b + 3])
+        & (store[a + 4] == store[b + 4])
+        & (store[a + 5] == store[b + 5])
+        & (store[a + 6] == store[b + 6])
+        & (store[a + 7] == store[b + 7])
+}
+
+// Whether a record after the one at a place has its cookie.
+fn held_later(store: &[u8], at: usize) -> bool
+    requires { ⌜ at + 16 ≤ length (now store) ⌝ }
+    ensures { λ r. ⌜ r ≡ held (num (now (store .entry)) at 8) (recordsFrom ((length (now (store .entry)) - (at + 16)) / 16) (now (store .entry)) (at + 16)) ⌝ }
+{
+    let mut i = at + 16;
+    while part::has_room(store, i, 16) {
+        if same_cookie(store, i, at) {
+            return true;
+        }
+        i += 16;
+    }
+    false
+}
+
 // The size, a gap, a used cookie 0, or a cookie held twice.
 pub fn wrong(store: &[u8]) -> bool
     ensures { λ r. ⌜ r ≡ wrongStore (now (store .entry)) ⌝ }
@@ -40,11 +71,10 @@ pub fn wrong(store: &[u8]) -> bool
     let n = store.len();
     let mut at = 0;
     while at < n {
-        let cookie = number::get64(store, at);
-        if cookie == 0 {
+        if number::get64(store, at) == 0 {
             return !unused_from(store, at);
         }
-        if row::find_from(store, at + 16, ServerCookie(cookie)) < n {
+        if held_later(store, at) {
             return true;
         }
         at += 16;

@@ -3,24 +3,16 @@ use header::ServerCookie;
 use octets::number;
 use octets::part;
 ghost use mathlib.Core.Path.{_≡_};
-ghost use Prim.Native.Nat.{_+_, _*_, _-_, _/_, _≤_};
+ghost use Prim.Native.Nat.{_+_, _-_, _≤_};
 ghost use lib.ListN.{length, drop};
 ghost use lib.Seq.{paste};
-ghost use Rattle.store.specs.Row.{recordsFrom};
-ghost use Rattle.store.specs.Place.{indexOf, placeOf, removed, joinedOctets};
+ghost use Rattle.store.specs.Place.{placeOf, removed, joinedOctets};
 
 // Where the first record with this cookie stands, or the end of the records.
 pub fn find(store: &[u8], cookie: ServerCookie) -> usize
     ensures { λ r. ⌜ r ≡ placeOf (now (store .entry)) (cookie .0) ⌝ }
 {
-    find_from(store, 0, cookie)
-}
-
-// The same of the records from a place on.
-pub(crate) fn find_from(store: &[u8], from: usize, cookie: ServerCookie) -> usize
-    ensures { λ r. ⌜ r ≡ from + 16 * indexOf (cookie .0) (recordsFrom ((length (now (store .entry)) - from) / 16) (now (store .entry)) from) ⌝ }
-{
-    let mut at = from;
+    let mut at = 0;
     while part::has_room(store, at, 16) {
         if number::get64(store, at) == cookie.0 {
             return at;

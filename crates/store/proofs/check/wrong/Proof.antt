@@ -1,9 +1,8 @@
 -- `wrong` meets its contract: the records left to see decide, once the size is right. Assumes nothing.
 use mathlib.Core.Path.{_≡_, refl, sym, ap, _∙_}
-use mathlib.Core.Bool.{false, not}
+use mathlib.Core.Bool.{true, false, not}
 use Prim.Native.Nat.{_-_, _%_, _≤_}
 use native.Mathlib.Omega.{arith}
-use borrow.Author.Tests.{lt-ltb, le-ltb}
 use lib.ListN.{length}
 use borrow.Author.Needs.{needs}
 use Rattle.octets.proofs.Numbers.{got}
@@ -47,11 +46,8 @@ returns-2 c =
     let e = sound-zero s (l .at) (omega arith) (sym g ∙ c .before .if2 .taken) in
     ap not (c .unused-from .ensures ∙ sym (l .inv .3 ∙ e)) ∙ sym q
 
-add-find-from : tie.Need-add-find-from Inv-loop μ-loop
-add-find-from c = omega arith
-
-find-from-requires : tie.Need-find-from-requires Inv-loop μ-loop
-find-from-requires c κs = search needs
+held-later-requires : tie.Need-held-later-requires Inv-loop μ-loop
+held-later-requires c κs = omega arith
 
 returns-3 : tie.Need-returns-3 Inv-loop μ-loop
 returns-3 c =
@@ -60,9 +56,8 @@ returns-3 c =
     let s = start .before .before .args .store .now in
     let q = wrong-by-records s (sym (start .wrong-size .ensures) ∙ c .before .before .before .before .before .before .if1 .left) in
     let g = got s (l .at) 8 _ (omega arith) (c .before .before .before .get64 .ensures) in
-    let e = sound-next s (l .at) _ _ (omega arith) (omega arith) g (c .before .before .if2 .left) (c .before .find-from .ensures) in
-    let f : soundRecords (rest s 0) ≡ false = l .inv .3 ∙ e ∙ rw (lt-ltb _ _ (c .if3 .taken)) in
-    sym (q ∙ ap not f)
+    let e = sound-next s (l .at) true (omega arith) (λ k. c .before .before .if2 .left (g ∙ k)) (sym (c .if3 .taken) ∙ c .before .held-later .ensures) in
+    sym (q ∙ ap not (l .inv .3 ∙ e))
 
 add-at : tie.Need-add-at Inv-loop μ-loop
 add-at c = omega arith
@@ -76,8 +71,8 @@ loop-again c =
     let start = c .before .before .before .before .before .before .before in
     let s = start .before .before .args .store .now in
     let g = got s (l .at) 8 _ (omega arith) (c .before .before .before .get64 .ensures) in
-    let e = sound-next s (l .at) _ _ (omega arith) (omega arith) g (c .before .before .if2 .left) (c .before .find-from .ensures) in
-    (omega arith, omega arith, omega arith, l .inv .3 ∙ e ∙ rw (le-ltb _ _ (c .if3 .left)))
+    let e = sound-next s (l .at) false (omega arith) (λ k. c .before .before .if2 .left (g ∙ k)) (sym (c .if3 .left) ∙ c .before .held-later .ensures) in
+    (omega arith, omega arith, omega arith, l .inv .3 ∙ e)
 
 returns-4 : tie.Need-returns-4 Inv-loop μ-loop
 returns-4 c =
@@ -99,8 +94,7 @@ wrong-spec =
     get64-requires
     unused-from-requires
     returns-2
-    add-find-from
-    find-from-requires
+    held-later-requires
     returns-3
     add-at
     loop-less
