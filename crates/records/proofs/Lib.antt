@@ -1,0 +1,3 @@
+-- The laws of the slice of records. Assumes nothing.
+pub mod Slots
+pub mod Walk

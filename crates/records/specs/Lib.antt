@@ -1,0 +1,2 @@
+-- The responder's saved timestamps as a slice of records.
+pub mod Records

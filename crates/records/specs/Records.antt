@@ -1,0 +1,58 @@
+-- Document 01, "The store is a row of 1 to 64 records", as a lent slice of records: what each call answers and leaves, for any records lent.
+-- The row's own rules are those of `store`: a cookie that is held, its time, a report, sound records.
+use mathlib.Core.Bool.{Bool, cond, not, _||_}
+use mathlib.Core.List.{List, [], _∷_, _++_, map}
+use Prim.Native.Nat.{ℕ, _+_}
+use lib.Dec.{eqb, ltb}
+use lib.ListN.{length, take, drop, replicate}
+use Rattle.store.specs.Row.{Record, held, timeOf, reported, usedOf, soundRecords}
+use Rattle.records.specs.declared.Record.{Record as Slot}
+
+-- ---- the one conversion: a record of a slice is a record of the row
+
+abbrev pub recordOf : Slot → Record
+recordOf r = record { cookie = r .cookie .0; time = r .time }
+
+abbrev pub recordsIn : List Slot → List Record
+recordsIn rs = map recordOf rs
+
+-- an unused record
+abbrev pub vacant : Record
+vacant = record { cookie = 0; time = 0 }
+
+-- ---- the calls
+
+-- a row is 1 to 64 records
+abbrev pub wrongCount : ℕ → Bool
+wrongCount n = ltb n 1 || ltb 64 n
+
+-- the store part of refusal 6
+unfoldable pub wrongRecords : List Record → Bool
+wrongRecords rs = wrongCount (length rs) || not (soundRecords rs)
+
+-- clearing checks the size only: the refusal, and the records after it
+unfoldable pub clearRecords : List Record → ℕ × List Record
+clearRecords rs = cond (wrongCount (length rs)) (6, rs) (0, replicate (length rs) vacant)
+
+-- a report of a cookie's time: 6 for the records or a time 0; 12 where the cookie is not in the row or has its time
+abbrev pub reportRefusal : List Record → ℕ → ℕ → ℕ
+reportRefusal rs c t =
+    cond (wrongRecords rs || eqb t 0) 6
+    (cond (not (held c (usedOf rs)) || not (eqb (timeOf c (usedOf rs)) 0)) 12
+    0)
+
+unfoldable pub reportRecords : List Record → ℕ → ℕ → ℕ × List Record
+reportRecords rs c t = cond (eqb (reportRefusal rs c t) 0) (0, reported c t rs) (reportRefusal rs c t, rs)
+
+-- the record at a place leaves: those after it move up by one, and the last is unused; past the end none leaves
+unfoldable pub leaveRecords : List Record → ℕ → List Record
+leaveRecords rs at = take at rs ++ drop (at + 1) (rs ++ (vacant ∷ []))
+
+-- the first record with cookie 0 gets a cookie
+unfoldable pub seated : ℕ → List Record → List Record
+seated c [] = []
+seated c (r ∷ rs) = cond (eqb (r .cookie) 0) (record { cookie = c; time = r .time } ∷ rs) (r ∷ seated c rs)
+
+-- a cookie joins the end: where no record has cookie 0, the oldest leaves first
+unfoldable pub joinRecords : List Record → ℕ → List Record
+joinRecords rs c = seated c (cond (held 0 rs) rs (leaveRecords rs 0))
