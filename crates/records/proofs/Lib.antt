@@ -1,3 +1,11 @@
 -- The laws of the slice of records. Assumes nothing.
 pub mod Slots
+pub mod Moves
+pub mod Judging
+pub mod Sounds
+pub mod Reporting
+pub mod Joining
 pub mod Walk
+pub mod Finding
+pub mod Lending
+pub mod Leaving

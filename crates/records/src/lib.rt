@@ -1,16 +1,24 @@
 // The responder's saved timestamps as a lent slice of records: a server cookie and its transmit time.
+mod value;
+
 use header::ServerCookie;
 ghost use mathlib.Core.Path.{_≡_};
 ghost use Prim.Native.Nat.{_+_};
-ghost use lib.ListN.{drop};
+ghost use lib.ListN.{drop, getD};
 ghost use Rattle.store.specs.Place.{indexOf};
-ghost use Rattle.records.specs.Records.{recordsIn};
+ghost use Rattle.records.specs.Records.{recordsIn, vacant, wrongRecords, clearRecords, reportRecords, leaveRecords, joinRecords};
 
 // An unused record has cookie 0 and time 0; a used one has time 0 until it is reported.
 pub struct Record {
     pub cookie: ServerCookie,
     pub time: u64,
 }
+
+// An unused record.
+pub const UNUSED: Record = Record {
+    cookie: ServerCookie(0),
+    time: 0,
+};
 
 // Where the first record with this cookie stands, from a place on; the end where there is none.
 pub fn find(records: &[Record], from: usize, cookie: ServerCookie) -> usize
@@ -24,4 +32,87 @@ pub fn find(records: &[Record], from: usize, cookie: ServerCookie) -> usize
         at += 1;
     }
     at
+}
+
+// The transmit time of the record at a place; 0 past the end.
+pub fn time(records: &[Record], at: usize) -> u64
+    ensures { λ r. ⌜ r ≡ getD (recordsIn (now (records .entry))) at vacant .time ⌝ }
+{
+    if at < records.len() {
+        return records[at].time;
+    }
+    0
+}
+
+// Refusal 6 of the records: their number, a gap, a used cookie 0, or a cookie held twice.
+pub fn wrong(records: &[Record]) -> bool
+    ensures { λ r. ⌜ r ≡ wrongRecords (recordsIn (now (records .entry))) ⌝ }
+{
+    let n = records.len();
+    let mut seen = value::first_seen(n);
+    let mut at = 0;
+    while at < n {
+        let record = records[at];
+        let later = find(records, at + 1, record.cookie);
+        seen = value::seen_after(seen, record, later < n);
+        at += 1;
+    }
+    seen.wrong
+}
+
+pub fn clear(records: &mut [Record]) -> u8
+    ensures { λ r. ⌜ (r, recordsIn (now (records .exit))) ≡ clearRecords (recordsIn (now (records .entry))) ⌝ }
+{
+    let n = records.len();
+    if value::wrong_count(n) {
+        return 6;
+    }
+    let mut at = 0;
+    while at < n {
+        records[at] = UNUSED;
+        at += 1;
+    }
+    0
+}
+
+// Gives a stored cookie its time, once.
+pub fn report(records: &mut [Record], cookie: ServerCookie, time: u64) -> u8
+    ensures { λ r. ⌜ (r, recordsIn (now (records .exit))) ≡ reportRecords (recordsIn (now (records .entry))) (cookie .0) time ⌝ }
+{
+    let wrong = wrong(records);
+    let at = find(records, 0, cookie);
+    if at < records.len() {
+        let report = value::reported(wrong, records[at], time);
+        records[at] = report.after;
+        return report.refusal;
+    }
+    value::absent(wrong, time)
+}
+
+// The record at a place leaves. From the end on, each later one goes to the place before its own.
+pub fn leave(records: &mut [Record], at: usize)
+    ensures { λ _. ⌜ recordsIn (now (records .exit)) ≡ leaveRecords (recordsIn (now (records .entry))) at ⌝ }
+{
+    let mut last = UNUSED;
+    let mut i = records.len();
+    while at < i {
+        i -= 1;
+        let record = records[i];
+        records[i] = last;
+        last = record;
+    }
+}
+
+// A cookie joins the end of the row; where it is full, the oldest leaves.
+pub fn join(records: &mut [Record], cookie: ServerCookie)
+    ensures { λ _. ⌜ recordsIn (now (records .exit)) ≡ joinRecords (recordsIn (now (records .entry))) (cookie .0) ⌝ }
+{
+    let n = records.len();
+    let free = find(records, 0, ServerCookie(0));
+    let seat = value::seat_for(free, n);
+    leave(records, seat.leaving);
+    let at = seat.at;
+    if at < n {
+        records[at] = value::with_cookie(records[at], cookie);
+    }
 }

@@ -1,0 +1,79 @@
+-- What joining comes to, by the place of the first record with cookie 0. Assumes nothing.
+use mathlib.Core.Path.{_≡_, refl, sym, ap, _∙_}
+use mathlib.Core.Bool.{Bool, true, false, cond}
+use mathlib.Core.List.{List, [], _∷_, _++_}
+use Prim.Native.Nat.{ℕ, suc, _+_, _-_, _<_, _≤_}
+use native.Mathlib.Nat.{zero-add}
+use native.Mathlib.Omega.{arith}
+use borrow.Author.Tests.{ltb-true}
+use lib.Dec.{eqb, ltb}
+use lib.ListN.{length, getD, set}
+use lib.Seq.{set-out}
+use Rattle.store.specs.Row.{Record, held}
+use Rattle.store.specs.Place.{indexOf}
+use Rattle.store.proofs.Rows.{or-none, held-index, index-past}
+use Rattle.records.specs.Records.{vacant, leaveRecords, seated, joinRecords}
+use Rattle.records.specs.Value.{seatFor}
+use Rattle.records.specs.declared.value.Seat.{Seat}
+use Rattle.records.proofs.Slots.{placeFrom}
+use Rattle.records.proofs.Moves.{length-leave, leave-past}
+
+-- the record at a place with a cookie
+abbrev pub withCookie : List Record → ℕ → ℕ → List Record
+withCookie rs i c = set rs i (record { cookie = c; time = getD rs i vacant .time })
+
+-- the first record with cookie 0 is the one that gets the cookie
+seated-set : (c : ℕ) (rs : List Record) → seated c rs ≡ withCookie rs (indexOf 0 rs) c
+unfolding seated indexOf
+seated-set c [] = refl
+seated-set c (r ∷ rs) = go (eqb (r .cookie) 0) (seated-set c rs)
+  where
+    go : (b : Bool) → seated c rs ≡ withCookie rs (indexOf 0 rs) c → cond b (record { cookie = c; time = r .time } ∷ rs) (r ∷ seated c rs) ≡ withCookie (r ∷ rs) (cond b 0 (1 + indexOf 0 rs)) c
+    go true e = refl
+    go false e = let o : 1 + indexOf 0 rs ≡ suc (indexOf 0 rs) = omega arith in rw o (ap (λ (l : List Record). r ∷ l) e)
+
+-- where no record had cookie 0, the last has once the first left
+last-free : (rs : List Record) → held 0 rs ≡ false → 0 < length rs → indexOf 0 (leaveRecords rs 0) ≡ length rs - 1
+unfolding leaveRecords held indexOf
+last-free [] h l = absurd (omega (arith, l))
+last-free (r ∷ rs) h l = index-past 0 rs (vacant ∷ []) (or-none (eqb (r .cookie) 0) (held 0 rs) h .1) ∙ omega arith
+
+module _ (rs : List Record) (c free : ℕ) (e : free ≡ placeFrom rs 0 0) where
+  place-is : indexOf 0 rs ≡ free
+  place-is = sym (e ∙ zero-add (indexOf 0 rs))
+
+  -- whether a record had cookie 0
+  had : (b : Bool) → ltb free (length rs) ≡ b → held 0 rs ≡ b
+  had b q = held-index 0 rs ∙ rw place-is q
+
+  -- the first record with cookie 0 gets the cookie
+  join-free : ltb free (length rs) ≡ true → joinRecords rs c ≡ withCookie rs free c
+  unfolding joinRecords
+  join-free q = rw (had true q) (seated-set c rs ∙ ap (λ (i : ℕ). withCookie rs i c) place-is)
+
+  -- or the first record leaves for it
+  join-full : ltb free (length rs) ≡ false → joinRecords rs c ≡ withCookie (leaveRecords rs 0) (indexOf 0 (leaveRecords rs 0)) c
+  unfolding joinRecords
+  join-full q = rw (had false q) (seated-set c (leaveRecords rs 0))
+
+  -- the seat is a place: the cookie goes there
+  pub join-seated : seatFor free (length rs) .at < length rs → withCookie (leaveRecords rs (seatFor free (length rs) .leaving)) (seatFor free (length rs) .at) c ≡ joinRecords rs c
+  join-seated = go (ltb free (length rs)) refl
+    where
+      seat : Bool → Seat
+      seat b = cond b (record { leaving = length rs; at = free }) (record { leaving = 0; at = length rs - 1 })
+
+      go : (b : Bool) → ltb free (length rs) ≡ b → seat b .at < length rs → withCookie (leaveRecords rs (seat b .leaving)) (seat b .at) c ≡ joinRecords rs c
+      go true q l = ap (λ (s : List Record). withCookie s free c) (leave-past rs (length rs) (omega arith)) ∙ sym (join-free q)
+      go false q l = sym (join-full q ∙ ap (λ (i : ℕ). withCookie (leaveRecords rs 0) i c) (last-free rs (had false q) (omega (arith, l))))
+
+  -- there is no place: there are no records
+  pub join-none : length rs ≤ seatFor free (length rs) .at → leaveRecords rs (seatFor free (length rs) .leaving) ≡ joinRecords rs c
+  join-none = go (ltb free (length rs)) refl
+    where
+      seat : Bool → Seat
+      seat b = cond b (record { leaving = length rs; at = free }) (record { leaving = 0; at = length rs - 1 })
+
+      go : (b : Bool) → ltb free (length rs) ≡ b → length rs ≤ seat b .at → leaveRecords rs (seat b .leaving) ≡ joinRecords rs c
+      go true q l = absurd (omega (arith, l, ltb-true free (length rs) q))
+      go false q l = sym (join-full q ∙ set-out (leaveRecords rs 0) (indexOf 0 (leaveRecords rs 0)) _ (omega (arith, l, length-leave rs 0)))
