@@ -33,7 +33,7 @@ seated-set c (r ∷ rs) = go (eqb (r .cookie) 0) (seated-set c rs)
     go false e = let o : 1 + indexOf 0 rs ≡ suc (indexOf 0 rs) = omega arith in rw o (ap (λ (l : List Record). r ∷ l) e)
 
 -- where no record had cookie 0, the last has once the first left
-last-free : (rs : List Record) → held 0 rs ≡ false → 0 < length rs → indexOf 0 (leaveRecords rs 0) ≡ length rs - 1
+pub last-free : (rs : List Record) → held 0 rs ≡ false → 0 < length rs → indexOf 0 (leaveRecords rs 0) ≡ length rs - 1
 unfolding leaveRecords held indexOf
 last-free [] h l = absurd (omega (arith, l))
 last-free (r ∷ rs) h l = index-past 0 rs (vacant ∷ []) (or-none (eqb (r .cookie) 0) (held 0 rs) h .1) ∙ omega arith
@@ -47,12 +47,12 @@ module _ (rs : List Record) (c free : ℕ) (e : free ≡ placeFrom rs 0 0) where
   had b q = held-index 0 rs ∙ rw place-is q
 
   -- the first record with cookie 0 gets the cookie
-  join-free : ltb free (length rs) ≡ true → joinRecords rs c ≡ withCookie rs free c
+  pub join-free : ltb free (length rs) ≡ true → joinRecords rs c ≡ withCookie rs free c
   unfolding joinRecords
   join-free q = rw (had true q) (seated-set c rs ∙ ap (λ (i : ℕ). withCookie rs i c) place-is)
 
   -- or the first record leaves for it
-  join-full : ltb free (length rs) ≡ false → joinRecords rs c ≡ withCookie (leaveRecords rs 0) (indexOf 0 (leaveRecords rs 0)) c
+  pub join-full : ltb free (length rs) ≡ false → joinRecords rs c ≡ withCookie (leaveRecords rs 0) (indexOf 0 (leaveRecords rs 0)) c
   unfolding joinRecords
   join-full q = rw (had false q) (seated-set c (leaveRecords rs 0))
 

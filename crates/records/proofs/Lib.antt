@@ -5,6 +5,9 @@ pub mod Judging
 pub mod Sounds
 pub mod Reporting
 pub mod Joining
+pub mod Encoding
+pub mod Sameness
+pub mod Runs
 pub mod Walk
 pub mod Finding
 pub mod Lending

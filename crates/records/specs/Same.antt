@@ -1,0 +1,92 @@
+-- The slice of records and the octets hold the same row: the same calls on a slice's records and on their octets give the same answers, and leave the same row.
+use mathlib.Core.Path.{_≡_}
+use mathlib.Core.Bool.{true, false}
+use mathlib.Core.List.{List, [], _∷_}
+use Prim.Native.Nat.{ℕ, _+_, _*_, _/_, _<_, _^_}
+use lib.ListN.{length, getD}
+use Rattle.octets.specs.Number.{getAt}
+use Rattle.store.specs.Row.{Record, held, reported, without, joined, usedOf, rowOctets, rowOf, cleared, reporting}
+use Rattle.store.specs.Place.{indexOf, placeOf, removed, joinedOctets}
+use Rattle.records.specs.Records.{recordsIn, vacant, wrongRecords, clearRecords, reportRecords, leaveRecords, joinRecords}
+use Rattle.records.specs.declared.Record.{Record as Slot}
+
+-- ---- calls
+
+-- a record's place is its number; in the octets it stands at 16 times that
+pub data Call : Type 0 where
+  clear : Call
+  find : (cookie : ℕ) → Call
+  time : (at : ℕ) → Call
+  report : (cookie time : ℕ) → Call
+  leave : (at : ℕ) → Call
+  join : (cookie : ℕ) → Call
+
+-- what a call on records answers and leaves; 0 where there is no answer
+abbrev pub onRecords : Call → List Record → ℕ × List Record
+onRecords clear rs = clearRecords rs
+onRecords (find c) rs = (indexOf c rs, rs)
+onRecords (time at) rs = (getD rs at vacant .time, rs)
+onRecords (report c t) rs = reportRecords rs c t
+onRecords (leave at) rs = (0, leaveRecords rs at)
+onRecords (join c) rs = (0, joinRecords rs c)
+
+-- what it does on octets, by the definitions of `store`
+abbrev pub onOctets : Call → List ℕ → ℕ × List ℕ
+onOctets clear s = cleared s
+onOctets (find c) s = (placeOf s c / 16, s)
+onOctets (time at) s = (getAt s (16 * at + 8) 8, s)
+onOctets (report c t) s = reporting s c t
+onOctets (leave at) s = (0, removed s (16 * at))
+onOctets (join c) s = (0, joinedOctets s c)
+
+-- the answers of calls, one after the other, and what is left
+unfoldable pub answers : {S : Type 0} → (Call → S → ℕ × S) → List Call → S → List ℕ
+answers step [] s = []
+answers step (c ∷ cs) s = step c s .0 ∷ answers step cs (step c s .1)
+
+unfoldable pub after : {S : Type 0} → (Call → S → ℕ × S) → List Call → S → S
+after step [] s = s
+after step (c ∷ cs) s = after step cs (step c s .1)
+
+-- ---- numbers of 64 bits, as every u64 is
+
+abbrev pub Typed : Call → Type 0
+Typed clear = Unit {0}
+Typed (find c) = Unit {0}
+Typed (time at) = Unit {0}
+Typed (report c t) = t < 2 ^ 64
+Typed (leave at) = Unit {0}
+Typed (join c) = c < 2 ^ 64
+
+abbrev pub AllTyped : List Call → Type 0
+AllTyped [] = Unit {0}
+AllTyped (c ∷ cs) = Typed c × AllTyped cs
+
+abbrev pub Fit : List Record → Type 0
+Fit [] = Unit {0}
+Fit (r ∷ rs) = (r .cookie < 2 ^ 64) × (r .time < 2 ^ 64) × Fit rs
+
+-- ---- the claims
+
+pub record SameCalls (rs : List Record) (cs : List Call) : Type 0 where
+  pub answered : answers onOctets cs (rowOctets rs) ≡ answers onRecords cs rs
+  pub left : after onOctets cs (rowOctets rs) ≡ rowOctets (after onRecords cs rs)
+  pub row : rowOf (after onOctets cs (rowOctets rs)) ≡ usedOf (after onRecords cs rs)
+
+-- for the records of any slice, right or wrong, and every list of calls
+abbrev pub Same : Type 0
+Same = (slice : List Slot) → Fit (recordsIn slice) → (cs : List Call) → AllTyped cs → SameCalls (recordsIn slice) cs
+
+-- records that are not wrong, and their row
+pub record Holds (row rs : List Record) : Type 0 where
+  pub right : wrongRecords rs ≡ false
+  pub its-row : usedOf rs ≡ row
+
+-- on records that are not wrong each call is the row's, and leaves records that are not wrong
+pub record RowChanges (rs : List Record) : Type 0 where
+  pub reports : (c t : ℕ) → t < 2 ^ 64 → reportRecords rs c t .0 ≡ 0 → Holds (reported c t (usedOf rs)) (reportRecords rs c t .1)
+  pub leaves : (c : ℕ) → held c (usedOf rs) ≡ true → Holds (without c (usedOf rs)) (leaveRecords rs (indexOf c rs))
+  pub joins : (c : ℕ) → (c ≡ 0 → ⊥) → c < 2 ^ 64 → held c (usedOf rs) ≡ false → Holds (joined (length rs) c (usedOf rs)) (joinRecords rs c)
+
+abbrev pub Changes : Type 0
+Changes = (slice : List Slot) → Fit (recordsIn slice) → wrongRecords (recordsIn slice) ≡ false → RowChanges (recordsIn slice)
