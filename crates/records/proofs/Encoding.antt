@@ -1,17 +1,16 @@
 -- Records and their octets: what is read in the ones is read in the others. Assumes nothing.
 use mathlib.Core.Path.{_≡_, refl, sym, ap, _∙_}
-use mathlib.Core.Bool.{Bool, true, false, not, _||_}
+use mathlib.Core.Bool.{Bool, true, false}
 use mathlib.Core.List.{List, [], _∷_, _++_}
-use Prim.Native.Nat.{ℕ, zero, suc, _+_, _*_, _/_, _%_, _<_, _≤_}
-use native.Mathlib.Nat.{zero-add}
+use Prim.Native.Nat.{ℕ, zero, suc, _+_, _*_, _%_, _<_}
 use native.Mathlib.Omega.{arith}
 use borrow.Author.Tests.{ltb-true, ltb-false, lt-ltb, le-ltb, eq-eqb, le-leb, lt-leb}
-use lib.Dec.{ltb, eqb}
+use lib.Dec.{ltb}
 use lib.ListN.{length, getD, set, take, drop, List·getD-eq-default}
 use lib.Seq.{split-at, set-at, length-take-le}
 use Rattle.octets.specs.Number.{Octets, num, octets, getAt, putAt}
 use Rattle.octets.proofs.Written.{both-octets, number-octets}
-use Rattle.store.specs.Row.{Record, usedOf, rowOctets, recordsFrom, recordsOf, sizeOf, rowOf, soundRecords, wrongSize, wrongStore}
+use Rattle.store.specs.Row.{Record, usedOf, rowOctets, recordsFrom, recordsOf, sizeOf, rowOf, wrongSize, wrongStore}
 use Rattle.store.specs.Place.{indexOf, placeOf}
 use Rattle.store.proofs.Rows.{or-false}
 use Rattle.store.proofs.Written.{AllFit, length-row, records-read}

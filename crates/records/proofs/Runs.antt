@@ -2,7 +2,7 @@
 use mathlib.Core.Path.{_≡_, refl, sym, ap, _∙_}
 use mathlib.Core.Bool.{Bool, true, false, cond}
 use mathlib.Core.List.{List, [], _∷_, _++_}
-use Prim.Native.Nat.{ℕ, zero, suc, _+_, _*_, _<_, _^_}
+use Prim.Native.Nat.{ℕ, zero, suc, _+_, _<_, _^_}
 use native.Mathlib.Omega.{arith}
 use borrow.Author.Tests.{eqb-true, eqb-false}
 use lib.Dec.{eqb}
@@ -14,8 +14,7 @@ use Rattle.store.proofs.Stores.{Stores, store-read, stores-right, stores-row}
 use Rattle.store.proofs.Steps.{stores-removed, stores-reported, stores-joined}
 use Rattle.store.proofs.Changed.{place-reported}
 use Rattle.records.specs.Records.{recordsIn, vacant, wrongCount, wrongRecords, clearRecords, reportRefusal, reportRecords, leaveRecords, seated, joinRecords}
-use Rattle.records.specs.Same.{Fit, Call, clear, find, time, report, leave, join, onRecords, onOctets, answers, after, Typed, AllTyped, SameCalls, Same, Holds, RowChanges, Changes}
-use Rattle.records.specs.declared.Record.{Record as Slot}
+use Rattle.records.specs.Same.{Fit, Call, clear, find, time, report, leave, join, onRecords, onOctets, answers, after, Typed, AllTyped, SameCalls, Same, Holds, Changes}
 use Rattle.records.proofs.Encoding.{size-is, row-octets, row-is, wrong-is, place-is}
 use Rattle.records.proofs.Sameness.{report-octets, unrefused, leave-same, join-same, step-same}
 

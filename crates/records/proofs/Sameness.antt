@@ -1,8 +1,8 @@
 -- Each call on records is the same call on their octets, so every list of calls is. Assumes nothing.
 use mathlib.Core.Path.{_≡_, refl, sym, ap, _∙_}
 use mathlib.Core.Bool.{Bool, true, false, cond, not, _||_, true≢false}
-use mathlib.Core.List.{List, [], _∷_, _++_, append-assoc}
-use Prim.Native.Nat.{ℕ, suc, _+_, _-_, _*_, _/_, _<_, _≤_, _^_}
+use mathlib.Core.List.{List, [], _∷_, _++_}
+use Prim.Native.Nat.{ℕ, suc, _+_, _-_, _*_, _<_, _≤_}
 use native.Mathlib.Nat.{zero-add, sub-zero}
 use native.Mathlib.Numerals.{add-one}
 use native.Mathlib.Omega.{arith}
@@ -11,19 +11,19 @@ use lib.Dec.{eqb, ltb}
 use lib.ListN.{length, getD, take, drop, replicate}
 use lib.Seq.{split-at, drop-append-le, length-take-le}
 use Rattle.octets.specs.Number.{putAt}
-use Rattle.store.specs.Row.{Record, held, timeOf, reported, usedOf, rowOctets, storeOctets, recordsFrom, sizeOf, rowOf, cleared, reporting}
+use Rattle.store.specs.Row.{Record, held, timeOf, reported, usedOf, rowOctets, storeOctets, recordsFrom, sizeOf, cleared, reporting}
 use Rattle.store.specs.Place.{indexOf, placeOf, removed, joinedOctets}
 use Rattle.store.proofs.Rows.{unusedRow, held-index}
 use Rattle.store.proofs.Written.{length-row, store-row}
-use Rattle.store.proofs.Stores.{Stores, store-read}
+use Rattle.store.proofs.Stores.{store-read}
 use Rattle.store.proofs.Places.{remove-record}
 use Rattle.store.proofs.Kept.{length-reported}
 use Rattle.store.proofs.Changed.{join-free as octets-free, join-full as octets-full}
 use Rattle.records.specs.Records.{vacant, wrongCount, wrongRecords, clearRecords, reportRefusal, reportRecords, leaveRecords, seated, joinRecords}
-use Rattle.records.specs.Same.{Fit, Call, clear, find, time, report, leave, join, onRecords, onOctets, answers, after, Typed, AllTyped, SameCalls, Same}
+use Rattle.records.specs.Same.{Fit, Call, clear, find, time, report, leave, join, onRecords, onOctets}
 use Rattle.records.proofs.Moves.{length-leave, leave-past}
 use Rattle.records.proofs.Joining.{withCookie, join-free, join-full, last-free}
-use Rattle.records.proofs.Encoding.{size-is, count-is, row-octets, read-back, row-is, wrong-is, place-is, time-is, put-at, test-16}
+use Rattle.records.proofs.Encoding.{size-is, count-is, row-octets, read-back, row-is, wrong-is, place-is, time-is, put-at}
 
 -- what a call on records leaves, as octets
 abbrev spelled : ℕ × List Record → ℕ × List ℕ
