@@ -1,4 +1,4 @@
--- A call of `find` on a `&[Record]`: it gives the place that its contract says, and the token comes back. Assumes `Given`.
+-- A call of `find` on a `&[Record]`: it gives the place that its contract says, and the token comes back. Takes the logic's rules (`Given`), and assumes nothing else.
 use mathlib.Core.Path.{_≡_, refl}
 use Prim.Native.Nat.{ℕ, _<_, _^_}
 use mathlib.Core.List.{List, [], _∷_}

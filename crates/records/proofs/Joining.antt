@@ -13,8 +13,7 @@ use Rattle.store.specs.Row.{Record, held}
 use Rattle.store.specs.Place.{indexOf}
 use Rattle.store.proofs.Rows.{or-none, held-index, index-past}
 use Rattle.records.specs.Records.{vacant, leaveRecords, seated, joinRecords}
-use Rattle.records.specs.Value.{seatFor}
-use Rattle.records.specs.declared.value.Seat.{Seat}
+use Rattle.records.specs.Value.{seatBy, seatFor}
 use Rattle.records.proofs.Slots.{placeFrom}
 use Rattle.records.proofs.Moves.{length-leave, leave-past}
 
@@ -60,10 +59,7 @@ module _ (rs : List Record) (c free : ℕ) (e : free ≡ placeFrom rs 0 0) where
   pub join-seated : seatFor free (length rs) .at < length rs → withCookie (leaveRecords rs (seatFor free (length rs) .leaving)) (seatFor free (length rs) .at) c ≡ joinRecords rs c
   join-seated = go (ltb free (length rs)) refl
     where
-      seat : Bool → Seat
-      seat b = cond b (record { leaving = length rs; at = free }) (record { leaving = 0; at = length rs - 1 })
-
-      go : (b : Bool) → ltb free (length rs) ≡ b → seat b .at < length rs → withCookie (leaveRecords rs (seat b .leaving)) (seat b .at) c ≡ joinRecords rs c
+      go : (b : Bool) → ltb free (length rs) ≡ b → seatBy b free (length rs) .at < length rs → withCookie (leaveRecords rs (seatBy b free (length rs) .leaving)) (seatBy b free (length rs) .at) c ≡ joinRecords rs c
       go true q l = ap (λ (s : List Record). withCookie s free c) (leave-past rs (length rs) (omega arith)) ∙ sym (join-free q)
       go false q l = sym (join-full q ∙ ap (λ (i : ℕ). withCookie (leaveRecords rs 0) i c) (last-free rs (had false q) (omega (arith, l))))
 
@@ -71,9 +67,6 @@ module _ (rs : List Record) (c free : ℕ) (e : free ≡ placeFrom rs 0 0) where
   pub join-none : length rs ≤ seatFor free (length rs) .at → leaveRecords rs (seatFor free (length rs) .leaving) ≡ joinRecords rs c
   join-none = go (ltb free (length rs)) refl
     where
-      seat : Bool → Seat
-      seat b = cond b (record { leaving = length rs; at = free }) (record { leaving = 0; at = length rs - 1 })
-
-      go : (b : Bool) → ltb free (length rs) ≡ b → length rs ≤ seat b .at → leaveRecords rs (seat b .leaving) ≡ joinRecords rs c
+      go : (b : Bool) → ltb free (length rs) ≡ b → length rs ≤ seatBy b free (length rs) .at → leaveRecords rs (seatBy b free (length rs) .leaving) ≡ joinRecords rs c
       go true q l = absurd (omega (arith, l, ltb-true free (length rs) q))
       go false q l = sym (join-full q ∙ set-out (leaveRecords rs 0) (indexOf 0 (leaveRecords rs 0)) _ (omega (arith, l, length-leave rs 0)))

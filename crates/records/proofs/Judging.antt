@@ -20,10 +20,15 @@ use Rattle.records.proofs.Slots.{none, length-in, get-in, next-in, plac
 abbrev pub verdict : Seen → List Record → Bool
 verdict s rs = s .wrong || cond (s .gap) (not (allUnused rs)) (not (soundRecords rs))
 
--- none is seen
-pub verdict-first : (rs : List Record) → verdict (record { wrong = wrongCount (length rs); gap = false }) rs ≡ wrongRecords rs
+-- a wrong number is enough
+pub wrong-by-count : (rs : List Record) → wrongCount (length rs) ≡ true → wrongRecords rs ≡ true
 unfolding wrongRecords
-verdict-first rs = refl
+wrong-by-count rs h = rw h
+
+-- else the records decide, of which none is seen yet
+pub verdict-first : (rs : List Record) → wrongCount (length rs) ≡ false → verdict (record { wrong = false; gap = false }) rs ≡ wrongRecords rs
+unfolding wrongRecords
+verdict-first rs h = sym (rw h)
 
 -- all are
 pub verdict-last : (s : Seen) → verdict s [] ≡ s .wrong

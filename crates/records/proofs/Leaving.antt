@@ -1,4 +1,4 @@
--- A call of `leave` by whoever holds a `&mut [Record]`: the slice is lent for it, and comes back with the records that its contract says. Assumes `Given`.
+-- A call of `leave` by whoever holds a `&mut [Record]`: the slice is lent for it, and comes back with the records that its contract says. Takes the logic's rules (`Given`), and assumes nothing else.
 use mathlib.Core.Path.{_≡_, refl, ap}
 use Prim.Native.Nat.{ℕ, _<_, _^_}
 use mathlib.Core.List.{List, [], _∷_}

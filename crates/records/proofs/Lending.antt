@@ -1,4 +1,4 @@
--- A `&mut [Record]` is lent for a call, as a `&[Record]` or as a `&mut [Record]`, and comes back. Assumes `Given`.
+-- A `&mut [Record]` is lent for a call, as a `&[Record]` or as a `&mut [Record]`, and comes back. Takes the logic's rules (`Given`), and assumes nothing else.
 --     Keeps, KeepsOn   what the holder keeps meanwhile: the lender's part, and its own borrow, open, with both halves of its ghost variable
 --     shares-out       a lifetime α is made, and the slice is lent for it as a `&`.        shares-back      α ends, and the slice is as it was
 --     lends-out        the same as a `&mut`.        lends-back       α ends, and the slice holds what it was left with

@@ -1,4 +1,4 @@
--- The laws of the slice of records. Assumes nothing.
+-- The laws of the slice of records: of its calls' definitions, of their being the store's, and what the walks share. Assumes nothing.
 pub mod Slots
 pub mod Moves
 pub mod Judging

@@ -6,15 +6,17 @@ use Prim.Native.Nat.{ℕ, zero, suc, _+_, _<_, _^_}
 use native.Mathlib.Omega.{arith}
 use borrow.Author.Tests.{eqb-true, eqb-false}
 use lib.Dec.{eqb}
-use lib.ListN.{length, take, drop, replicate}
+use lib.ListN.{length, getD, take, drop, replicate}
 use Rattle.octets.specs.Number.{putAt}
-use Rattle.store.specs.Row.{Record, held, reported, without, joined, usedOf, rowOctets, storeOctets, rowOf, wrongStore}
+use Rattle.store.specs.Row.{Record, held, timeOf, reported, without, joined, usedOf, rowOctets, storeOctets, rowOf, wrongStore}
 use Rattle.store.specs.Place.{indexOf, placeOf, removed, joinedOctets}
+use Rattle.store.proofs.Rows.{held-index}
 use Rattle.store.proofs.Stores.{Stores, store-read, stores-right, stores-row}
 use Rattle.store.proofs.Steps.{stores-removed, stores-reported, stores-joined}
 use Rattle.store.proofs.Changed.{place-reported}
 use Rattle.records.specs.Records.{recordsIn, vacant, wrongCount, wrongRecords, clearRecords, reportRefusal, reportRecords, leaveRecords, seated, joinRecords}
-use Rattle.records.specs.Same.{Fit, Call, clear, find, time, report, leave, join, onRecords, onOctets, answers, after, Typed, AllTyped, SameCalls, Same, Holds, Changes}
+use Rattle.records.specs.Same.{Fit, Call, clear, wrong, find, time, report, leave, join, onRecords, onOctets, answers, after, Typed, AllTyped, SameCalls, Same, Holds, ByRow}
+use Rattle.records.proofs.Sounds.{held-row, time-row, right-sound}
 use Rattle.records.proofs.Encoding.{size-is, row-octets, row-is, wrong-is, place-is}
 use Rattle.records.proofs.Sameness.{report-octets, unrefused, leave-same, join-same, step-same}
 
@@ -86,6 +88,7 @@ fit-join rs c h f = fit-seated c (cond (held 0 rs) rs (leaveRecords rs 0)) h (go
 
 fit-step : (c : Call) (rs : List Record) → Typed c → Fit rs → Fit (onRecords c rs .1)
 fit-step clear rs t f = fit-clear rs f
+fit-step wrong rs t f = f
 fit-step (find c) rs t f = f
 fit-step (time at) rs t f = f
 fit-step (report c t′) rs t f = fit-report rs c t′ t f
@@ -112,7 +115,17 @@ same-calls rs f (c ∷ cs) ts =
 pub same : Same
 same slice f cs ts = same-calls (recordsIn slice) f cs ts
 
--- ---- the row's changes
+-- ---- the row's calls
+
+-- the time of a cookie stands where the cookie does
+time-at : (c : ℕ) (rs : List Record) → timeOf c rs ≡ getD rs (indexOf c rs) vacant .time
+unfolding timeOf indexOf
+time-at c [] = refl
+time-at c (r ∷ rs) = go (eqb (r .cookie) c) (time-at c rs)
+  where
+    go : (b : Bool) → timeOf c rs ≡ getD rs (indexOf c rs) vacant .time → cond b (r .time) (timeOf c rs) ≡ getD (r ∷ rs) (cond b 0 (1 + indexOf c rs)) vacant .time
+    go true e = refl
+    go false e = let o : 1 + indexOf c rs ≡ suc (indexOf c rs) = omega arith in rw o e
 
 -- records whose octets are a store hold its row
 holds : (rs : List Record) → Fit rs → (s : List ℕ) → s ≡ rowOctets rs → (n : ℕ) (row : List Record) → Stores s n row → Holds row rs
@@ -152,9 +165,11 @@ module _ (rs : List Record) (f : Fit rs) (h : wrongRecords rs ≡ false) where
   join-holds : (c : ℕ) → (c ≡ 0 → ⊥) → c < 2 ^ 64 → held c (usedOf rs) ≡ false → Holds (joined (length rs) c (usedOf rs)) (joinRecords rs c)
   join-holds c z l k = holds (joinRecords rs c) (fit-join rs c l f) (joinedOctets (rowOctets rs) c) (join-same rs f c) (length rs) (joined (length rs) c (usedOf rs)) (stores-joined stored c z l k)
 
-pub changes : Changes
-changes slice f h = record {
-  reports = report-holds (recordsIn slice) f h;
-  leaves = leave-holds (recordsIn slice) f h;
-  joins = join-holds (recordsIn slice) f h;
+pub by-row : ByRow
+by-row slice f h = let rs = recordsIn slice in record {
+  finds = λ c z. held-row c rs (right-sound rs h) z ∙ held-index c rs;
+  times = λ c. time-row c rs (right-sound rs h) ∙ time-at c rs;
+  reports = report-holds rs f h;
+  leaves = leave-holds rs f h;
+  joins = join-holds rs f h;
 }

@@ -20,7 +20,7 @@ use Rattle.store.proofs.Places.{remove-record}
 use Rattle.store.proofs.Kept.{length-reported}
 use Rattle.store.proofs.Changed.{join-free as octets-free, join-full as octets-full}
 use Rattle.records.specs.Records.{vacant, wrongCount, wrongRecords, clearRecords, reportRefusal, reportRecords, leaveRecords, seated, joinRecords}
-use Rattle.records.specs.Same.{Fit, Call, clear, find, time, report, leave, join, onRecords, onOctets}
+use Rattle.records.specs.Same.{Fit, Call, clear, wrong, find, time, report, leave, join, onRecords, onOctets}
 use Rattle.records.proofs.Moves.{length-leave, leave-past}
 use Rattle.records.proofs.Joining.{withCookie, join-free, join-full, last-free}
 use Rattle.records.proofs.Encoding.{size-is, count-is, row-octets, read-back, row-is, wrong-is, place-is, time-is, put-at}
@@ -146,6 +146,7 @@ module _ (rs : List Record) (f : Fit rs) (c t : ℕ) where
 
 pub step-same : (c : Call) (rs : List Record) → Fit rs → onOctets c (rowOctets rs) ≡ spelled (onRecords c rs)
 step-same clear rs f = clear-same rs
+step-same wrong rs f = ap (λ (b : Bool). (cond b 1 0, rowOctets rs)) (wrong-is rs f)
 step-same (find c) rs f = ap (λ (i : ℕ). (i, rowOctets rs)) (rw (place-is rs f c) (omega arith))
 step-same (time at) rs f = ap (λ (t : ℕ). (t, rowOctets rs)) (time-is rs f at)
 step-same (report c t) rs f = report-same rs f c t

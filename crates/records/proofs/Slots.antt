@@ -1,7 +1,7 @@
 -- A slice's records one by one, and as the row's: what is read and what is stored is the same in both. Assumes nothing.
-use mathlib.Core.Path.{_≡_, refl, ap}
+use mathlib.Core.Path.{_≡_, refl, sym, ap, _∙_}
 use mathlib.Core.Bool.{true, false}
-use mathlib.Core.List.{List, [], _∷_}
+use mathlib.Core.List.{List, [], _∷_, map}
 use Prim.Native.Nat.{ℕ, zero, suc, _+_, _<_, _≤_}
 use native.Mathlib.Nat.{add-zero}
 use native.Mathlib.Numerals.{add-one}
@@ -17,6 +17,21 @@ use Rattle.records.specs.declared.Record.{Record as Slot}
 -- an unused record of a slice
 abbrev pub none : Slot
 none = record { cookie = record { 0 = 0 }; time = 0 }
+
+-- ---- the conversion is one to one, so that what is said of the records fixes the slice
+
+slotOf : Record → Slot
+slotOf r = record { cookie = record { 0 = r .cookie }; time = r .time }
+
+there-and-back : (rs : List Slot) → map slotOf (recordsIn rs) ≡ rs
+unfolding slotOf
+there-and-back [] = refl
+there-and-back (r ∷ rs) = ap (λ (l : List Slot). r ∷ l) (there-and-back rs)
+
+pub records-one : (rs ss : List Slot) → recordsIn rs ≡ recordsIn ss → rs ≡ ss
+records-one rs ss e = sym (there-and-back rs) ∙ ap (map slotOf) e ∙ there-and-back ss
+
+-- ---- one record
 
 pub length-in : (rs : List Slot) → length (recordsIn rs) ≡ length rs
 length-in rs = length-map rs recordOf

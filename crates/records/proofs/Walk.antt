@@ -1,4 +1,4 @@
--- What the walks over a slice of records have in common. Assumes `Given`.
+-- What the walks over a slice of records have in common: a record among others, tests, calls. Each step takes the logic's rules (`Given`), and nothing else is assumed.
 use mathlib.Core.Path.{_≡_, refl, sym, ap, subst}
 use mathlib.Core.Bool.{Bool, true, false, not}
 use Prim.Native.Nat.{ℕ, _*_, _<_, _^_}
@@ -105,30 +105,30 @@ module _ {M : Type 1} {𝓤 : URA M} {H : Heap 𝓤} {A : Atoms 𝓤} {K : Type 
 
 -- ---- a record among others
 
--- a record's machine value is this record's,
+-- a record and its machine value
 abbrev pub IsRecord : Slot → Type 0
 IsRecord r = Is T.the-row r (T′.lowered r ∷ [])
 
--- and a cookie's machine value this cookie's
+-- a cookie and its machine value
 abbrev pub IsCookie : ServerCookie → Type 0
 IsCookie c = Is Ck.the-row c (Ck′.lowered c ∷ [])
 
--- its numbers fit
+-- a record's numbers fit
 pub time-fits : (r : Slot) → IsRecord r → r .time < 2 ^ 64
 time-fits r g = LL.owed T.the-type T′.the-laws r (T′.lowered r ∷ []) g .1 .0 .1
 
 pub cookie-fits : (r : Slot) → IsRecord r → r .cookie .0 < 2 ^ 64
 cookie-fits r g = LL.owed T.the-type T′.the-laws r (T′.lowered r ∷ []) g .0 .1 .1 .0 .1
 
--- and where they fit there is such a value
+-- where they fit it has a machine value
 pub is-record : (r : Slot) → r .cookie .0 < 2 ^ 64 → r .time < 2 ^ 64 → IsRecord r
 is-record r c t = LL.owes T.the-type T′.the-laws r (((vint w64 (r .cookie .0) ∷ [], tt), (refl, ((refl, c), tt))), ((refl, t), tt))
 
--- so does its cookie
+-- and so has its cookie
 pub cookie-of : (r : Slot) → IsRecord r → IsCookie (r .cookie)
 cookie-of r g = LL.owes Ck.the-type Ck′.the-laws (r .cookie) ((refl, cookie-fits r g), tt)
 
--- and it is of its type
+-- which is of its type
 pub typed : {M : Type 1} {𝓤 : URA M} {H : Heap 𝓤} {A : Atoms 𝓤} (W : Given 𝓤 H A) (r : Slot) → IsRecord r → T (hasTy T′.mir (T′.lowered r)) × WT (T′.lowered r)
 typed {𝓤 = 𝓤} {H = H} {A = A} W r g = LL.lawful T.the-type T′.the-laws 𝓤 H A W .typed r (T′.lowered r ∷ []) g .0
 
@@ -173,14 +173,14 @@ module _ {M : Type 1} {𝓤 : URA M} {H : Heap 𝓤} {A : Atoms 𝓤} {K : Type 
       → Seq K W Γ (runs C Λ E (seq (cond c a skip) b) q)
   ifs t test then else = first t $ branches t test then (λ h. skips t $ record { prf = else h .prf })
 
+-- ---- calls
+
 -- a function's contract as a triple, and the type of its result
 abbrev pub Asks : {M : Type 1} (𝓤 : URA M) (H : Heap 𝓤) (A : Atoms 𝓤) (S : Ended) → Clauses 𝓤 S → Contract 𝓤
 Asks 𝓤 H A S c = tripleOf 𝓤 H A (S .signature) (closing 𝓤 H A S c)
 
 abbrev Result : (S : Ended) → Lfts (S .signature .lifetimes) → RattleType
 Result S κs = typeAt (S .signature .result) κs
-
--- ---- calls
 
 -- where an `ensures` is a fact of the result, what is ensured is that fact
 told : {M : Type 1} (𝓤 : URA M) (H : Heap 𝓤) (A : Atoms 𝓤) (S : Ended) (c : Clauses 𝓤 S) (κs : Lfts (S .signature .lifetimes)) (a : Args (S .signature) κs) (g : c κs a .ghost) (r : Result S κs .Denot) (φ : Type 0)

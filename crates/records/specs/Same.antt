@@ -1,11 +1,12 @@
 -- The slice of records and the octets hold the same row: the same calls on a slice's records and on their octets give the same answers, and leave the same row.
 use mathlib.Core.Path.{_≡_}
-use mathlib.Core.Bool.{true, false}
+use mathlib.Core.Bool.{true, false, cond}
 use mathlib.Core.List.{List, [], _∷_}
 use Prim.Native.Nat.{ℕ, _+_, _*_, _/_, _<_, _^_}
+use lib.Dec.{ltb}
 use lib.ListN.{length, getD}
 use Rattle.octets.specs.Number.{getAt}
-use Rattle.store.specs.Row.{Record, held, reported, without, joined, usedOf, rowOctets, rowOf, cleared, reporting}
+use Rattle.store.specs.Row.{Record, held, timeOf, reported, without, joined, usedOf, rowOctets, rowOf, wrongStore, cleared, reporting}
 use Rattle.store.specs.Place.{indexOf, placeOf, removed, joinedOctets}
 use Rattle.records.specs.Records.{recordsIn, vacant, wrongRecords, clearRecords, reportRecords, leaveRecords, joinRecords}
 use Rattle.records.specs.declared.Record.{Record as Slot}
@@ -15,15 +16,17 @@ use Rattle.records.specs.declared.Record.{Record as Slot}
 -- a record's place is its number; in the octets it stands at 16 times that
 pub data Call : Type 0 where
   clear : Call
+  wrong : Call
   find : (cookie : ℕ) → Call
   time : (at : ℕ) → Call
   report : (cookie time : ℕ) → Call
   leave : (at : ℕ) → Call
   join : (cookie : ℕ) → Call
 
--- what a call on records answers and leaves; 0 where there is no answer
+-- what a call on records answers and leaves; 0 where there is no answer, 1 for true. A cookie is looked for from the start
 abbrev pub onRecords : Call → List Record → ℕ × List Record
 onRecords clear rs = clearRecords rs
+onRecords wrong rs = (cond (wrongRecords rs) 1 0, rs)
 onRecords (find c) rs = (indexOf c rs, rs)
 onRecords (time at) rs = (getD rs at vacant .time, rs)
 onRecords (report c t) rs = reportRecords rs c t
@@ -33,6 +36,7 @@ onRecords (join c) rs = (0, joinRecords rs c)
 -- what it does on octets, by the definitions of `store`
 abbrev pub onOctets : Call → List ℕ → ℕ × List ℕ
 onOctets clear s = cleared s
+onOctets wrong s = (cond (wrongStore s) 1 0, s)
 onOctets (find c) s = (placeOf s c / 16, s)
 onOctets (time at) s = (getAt s (16 * at + 8) 8, s)
 onOctets (report c t) s = reporting s c t
@@ -52,6 +56,7 @@ after step (c ∷ cs) s = after step cs (step c s .1)
 
 abbrev pub Typed : Call → Type 0
 Typed clear = Unit {0}
+Typed wrong = Unit {0}
 Typed (find c) = Unit {0}
 Typed (time at) = Unit {0}
 Typed (report c t) = t < 2 ^ 64
@@ -83,10 +88,12 @@ pub record Holds (row rs : List Record) : Type 0 where
   pub its-row : usedOf rs ≡ row
 
 -- on records that are not wrong each call is the row's, and leaves records that are not wrong
-pub record RowChanges (rs : List Record) : Type 0 where
+pub record RowCalls (rs : List Record) : Type 0 where
+  pub finds : (c : ℕ) → (c ≡ 0 → ⊥) → held c (usedOf rs) ≡ ltb (indexOf c rs) (length rs)
+  pub times : (c : ℕ) → timeOf c (usedOf rs) ≡ getD rs (indexOf c rs) vacant .time
   pub reports : (c t : ℕ) → t < 2 ^ 64 → reportRecords rs c t .0 ≡ 0 → Holds (reported c t (usedOf rs)) (reportRecords rs c t .1)
   pub leaves : (c : ℕ) → held c (usedOf rs) ≡ true → Holds (without c (usedOf rs)) (leaveRecords rs (indexOf c rs))
   pub joins : (c : ℕ) → (c ≡ 0 → ⊥) → c < 2 ^ 64 → held c (usedOf rs) ≡ false → Holds (joined (length rs) c (usedOf rs)) (joinRecords rs c)
 
-abbrev pub Changes : Type 0
-Changes = (slice : List Slot) → Fit (recordsIn slice) → wrongRecords (recordsIn slice) ≡ false → RowChanges (recordsIn slice)
+abbrev pub ByRow : Type 0
+ByRow = (slice : List Slot) → Fit (recordsIn slice) → wrongRecords (recordsIn slice) ≡ false → RowCalls (recordsIn slice)

@@ -1,5 +1,5 @@
 -- What is decided about one record, by value. The contracts of the calls do not cite it.
-use mathlib.Core.Bool.{Bool, true, cond, not, _&&_, _||_}
+use mathlib.Core.Bool.{Bool, true, false, cond, not, _&&_, _||_}
 use Prim.Native.Nat.{ℕ, _-_}
 use lib.Dec.{eqb, ltb}
 use Rattle.records.specs.declared.Record.{Record as Slot}
@@ -24,6 +24,10 @@ reportedOne wrong r t =
 abbrev pub absentRefusal : (wrong : Bool) → ℕ → ℕ
 absentRefusal wrong t = cond (wrong || eqb t 0) 6 12
 
--- the first record with cookie 0; where there is none among n, the last, and the first leaves
+-- the first record with cookie 0, where there is one; else the last, and the first leaves
+abbrev pub seatBy : (one : Bool) (free n : ℕ) → Seat
+seatBy true free n = record { leaving = n; at = free }
+seatBy false free n = record { leaving = 0; at = n - 1 }
+
 abbrev pub seatFor : (free n : ℕ) → Seat
-seatFor free n = cond (ltb free n) (record { leaving = n; at = free }) (record { leaving = 0; at = n - 1 })
+seatFor free n = seatBy (ltb free n) free n

@@ -2,6 +2,7 @@
 mod value;
 
 use header::ServerCookie;
+use value::Seen;
 ghost use mathlib.Core.Path.{_≡_};
 ghost use Prim.Native.Nat.{_+_};
 ghost use lib.ListN.{drop, getD};
@@ -44,12 +45,18 @@ pub fn time(records: &[Record], at: usize) -> u64
     0
 }
 
-// Refusal 6 of the records: their number, a gap, a used cookie 0, or a cookie held twice.
+// The store part of refusal 6: the number of records, a gap, a used cookie 0, or a cookie held twice.
 pub fn wrong(records: &[Record]) -> bool
     ensures { λ r. ⌜ r ≡ wrongRecords (recordsIn (now (records .entry))) ⌝ }
 {
     let n = records.len();
-    let mut seen = value::first_seen(n);
+    if value::wrong_count(n) {
+        return true;
+    }
+    let mut seen = Seen {
+        wrong: false,
+        gap: false,
+    };
     let mut at = 0;
     while at < n {
         let record = records[at];
@@ -60,6 +67,7 @@ pub fn wrong(records: &[Record]) -> bool
     seen.wrong
 }
 
+// Makes every record unused.
 pub fn clear(records: &mut [Record]) -> u8
     ensures { λ r. ⌜ (r, recordsIn (now (records .exit))) ≡ clearRecords (recordsIn (now (records .entry))) ⌝ }
 {
@@ -79,17 +87,17 @@ pub fn clear(records: &mut [Record]) -> u8
 pub fn report(records: &mut [Record], cookie: ServerCookie, time: u64) -> u8
     ensures { λ r. ⌜ (r, recordsIn (now (records .exit))) ≡ reportRecords (recordsIn (now (records .entry))) (cookie .0) time ⌝ }
 {
-    let wrong = wrong(records);
+    let is_wrong = wrong(records);
     let at = find(records, 0, cookie);
     if at < records.len() {
-        let report = value::reported(wrong, records[at], time);
+        let report = value::reported(is_wrong, records[at], time);
         records[at] = report.after;
         return report.refusal;
     }
-    value::absent(wrong, time)
+    value::absent(is_wrong, time)
 }
 
-// The record at a place leaves. From the end on, each later one goes to the place before its own.
+// The record at a place leaves: from the end on, each later one goes to the place before its own.
 pub fn leave(records: &mut [Record], at: usize)
     ensures { λ _. ⌜ recordsIn (now (records .exit)) ≡ leaveRecords (recordsIn (now (records .entry))) at ⌝ }
 {
@@ -103,7 +111,7 @@ pub fn leave(records: &mut [Record], at: usize)
     }
 }
 
-// A cookie joins the end of the row; where it is full, the oldest leaves.
+// A cookie joins the end of the row; where that is full, the oldest leaves.
 pub fn join(records: &mut [Record], cookie: ServerCookie)
     ensures { λ _. ⌜ recordsIn (now (records .exit)) ≡ joinRecords (recordsIn (now (records .entry))) (cookie .0) ⌝ }
 {

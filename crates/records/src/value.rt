@@ -2,7 +2,6 @@
 use crate::Record;
 use header::ServerCookie;
 ghost use mathlib.Core.Path.{_≡_};
-ghost use mathlib.Core.Bool.{false};
 ghost use Rattle.records.specs.Records.{wrongCount};
 ghost use Rattle.records.specs.Value.{seenAfter, reportedOne, absentRefusal, seatFor};
 
@@ -17,16 +16,6 @@ pub(crate) fn wrong_count(n: usize) -> bool
 pub struct Seen {
     pub wrong: bool,
     pub gap: bool,
-}
-
-// Of n records, none is seen yet.
-pub(crate) fn first_seen(n: usize) -> Seen
-    ensures { λ r. ⌜ r ≡ record { wrong = wrongCount n; gap = false } ⌝ }
-{
-    Seen {
-        wrong: wrong_count(n),
-        gap: false,
-    }
 }
 
 // One record more is seen. `again`: a later one has its cookie too.
@@ -46,6 +35,7 @@ pub(crate) fn seen_after(seen: Seen, r: Record, again: bool) -> Seen
     }
 }
 
+// What a report answers, and the record after it.
 pub struct Report {
     pub refusal: u8,
     pub after: Record,
