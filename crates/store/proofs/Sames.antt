@@ -1,4 +1,4 @@
--- Two numbers are the same where their octets are. Assumes nothing.
+-- Two numbers are the same where their octets are, and a number is 0 where they are 0. Assumes nothing.
 use mathlib.Core.Path.{_≡_, refl, ap, _∙_}
 use mathlib.Core.Bool.{Bool, true, false, _&&_}
 use mathlib.Core.List.{List}
@@ -35,3 +35,20 @@ num-same s a b (suc n) o =
 pub same-eight : (s : List ℕ) (a b : ℕ) → sameOctets s a b 8 ≡ ((((((eqb (getD s a 0) (getD s b 0) && eqb (getD s (a + 1) 0) (getD s (b + 1) 0)) && eqb (getD s (a + 2) 0) (getD s (b + 2) 0)) && eqb (getD s (a + 3) 0) (getD s (b + 3) 0)) && eqb (getD s (a + 4) 0) (getD s (b + 4) 0)) && eqb (getD s (a + 5) 0) (getD s (b + 5) 0)) && eqb (getD s (a + 6) 0) (getD s (b + 6) 0)) && eqb (getD s (a + 7) 0) (getD s (b + 7) 0)
 unfolding sameOctets
 same-eight s a b = rw (add-zero a, add-zero b)
+
+-- a number is 0 where its octets are
+
+unfoldable pub zeroOctets : List ℕ → (a n : ℕ) → Bool
+zeroOctets s a zero = true
+zeroOctets s a (suc n) = zeroOctets s a n && eqb (getD s (a + n) 0) 0
+
+pub num-zero : (s : List ℕ) (a n : ℕ) → Octets s → eqb (num s a n) 0 ≡ zeroOctets s a n
+unfolding num zeroOctets
+num-zero s a zero o = refl
+num-zero s a (suc n) o =
+    eqb-digits (num s a n) 0 (getD s (a + n) 0) 0 (o (a + n)) (omega arith)
+    ∙ ap (λ (t : Bool). t && eqb (getD s (a + n) 0) 0) (num-zero s a n o)
+
+pub zero-eight : (s : List ℕ) (a : ℕ) → zeroOctets s a 8 ≡ ((((((eqb (getD s a 0) 0 && eqb (getD s (a + 1) 0) 0) && eqb (getD s (a + 2) 0) 0) && eqb (getD s (a + 3) 0) 0) && eqb (getD s (a + 4) 0) 0) && eqb (getD s (a + 5) 0) 0) && eqb (getD s (a + 6) 0) 0) && eqb (getD s (a + 7) 0) 0
+unfolding zeroOctets
+zero-eight s a = rw (add-zero a)

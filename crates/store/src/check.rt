@@ -46,6 +46,21 @@ fn same_cookie(store: &[u8], a: usize, b: usize) -> bool
         & (store[a + 7] == store[b + 7])
 }
 
+// Whether a record's cookie is 0.
+fn no_cookie(store: &[u8], at: usize) -> bool
+    requires { ⌜ at + 8 ≤ length (now store) ⌝ }
+    ensures { λ r. ⌜ r ≡ eqb (num (now (store .entry)) at 8) 0 ⌝ }
+{
+    (store[at] == 0)
+        & (store[at + 1] == 0)
+        & (store[at + 2] == 0)
+        & (store[at + 3] == 0)
+        & (store[at + 4] == 0)
+        & (store[at + 5] == 0)
+        & (store[at + 6] == 0)
+        & (store[at + 7] == 0)
+}
+
 // Whether a record after the one at a place has its cookie.
 fn held_later(store: &[u8], at: usize) -> bool
     requires { ⌜ at + 16 ≤ length (now store) ⌝ }
@@ -71,7 +86,7 @@ pub fn wrong(store: &[u8]) -> bool
     let n = store.len();
     let mut at = 0;
     while at < n {
-        if number::get64(store, at) == 0 {
+        if no_cookie(store, at) {
             return !unused_from(store, at);
         }
         if held_later(store, at) {

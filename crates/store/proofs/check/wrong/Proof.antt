@@ -3,9 +3,9 @@ use mathlib.Core.Path.{_≡_, refl, sym, ap, _∙_}
 use mathlib.Core.Bool.{true, false, not}
 use Prim.Native.Nat.{_-_, _%_, _≤_}
 use native.Mathlib.Omega.{arith}
+use borrow.Author.Tests.{eqb-true, eqb-false}
 use lib.ListN.{length}
 use borrow.Author.Needs.{needs}
-use Rattle.octets.proofs.Numbers.{got}
 use Rattle.store.specs.Row.{soundRecords}
 use Rattle.store.proofs.Stores.{right-size}
 use Rattle.store.proofs.Walks.{rest, sound-zero, sound-next, sound-end, wrong-by-size, wrong-by-records}
@@ -30,8 +30,8 @@ loop-holds c =
     let z = right-size s (sym (c .before .wrong-size .ensures) ∙ c .if1 .left) in
     (omega arith, omega arith, omega (arith, z .2), refl)
 
-get64-requires : tie.Need-get64-requires Inv-loop μ-loop
-get64-requires c κs = search needs
+no-cookie-requires : tie.Need-no-cookie-requires Inv-loop μ-loop
+no-cookie-requires c κs = omega arith
 
 unused-from-requires : tie.Need-unused-from-requires Inv-loop μ-loop
 unused-from-requires c κs = (omega arith, omega arith, omega arith)
@@ -42,8 +42,7 @@ returns-2 c =
     let start = c .before .before .before .before .before .before in
     let s = start .before .before .args .store .now in
     let q = wrong-by-records s (sym (start .wrong-size .ensures) ∙ c .before .before .before .before .before .if1 .left) in
-    let g = got s (l .at) 8 _ (omega arith) (c .before .before .get64 .ensures) in
-    let e = sound-zero s (l .at) (omega arith) (sym g ∙ c .before .if2 .taken) in
+    let e = sound-zero s (l .at) (omega arith) (eqb-true _ _ (sym (c .before .before .no-cookie .ensures) ∙ c .before .if2 .taken)) in
     ap not (c .unused-from .ensures ∙ sym (l .inv .3 ∙ e)) ∙ sym q
 
 held-later-requires : tie.Need-held-later-requires Inv-loop μ-loop
@@ -55,8 +54,8 @@ returns-3 c =
     let start = c .before .before .before .before .before .before .before in
     let s = start .before .before .args .store .now in
     let q = wrong-by-records s (sym (start .wrong-size .ensures) ∙ c .before .before .before .before .before .before .if1 .left) in
-    let g = got s (l .at) 8 _ (omega arith) (c .before .before .before .get64 .ensures) in
-    let e = sound-next s (l .at) true (omega arith) (λ k. c .before .before .if2 .left (g ∙ k)) (sym (c .if3 .taken) ∙ c .before .held-later .ensures) in
+    let z = eqb-false _ _ (sym (c .before .before .before .no-cookie .ensures) ∙ c .before .before .if2 .left) in
+    let e = sound-next s (l .at) true (omega arith) z (sym (c .if3 .taken) ∙ c .before .held-later .ensures) in
     sym (q ∙ ap not (l .inv .3 ∙ e))
 
 add-at : tie.Need-add-at Inv-loop μ-loop
@@ -70,8 +69,8 @@ loop-again c =
     let l = c .before .before .before .before .before .loop in
     let start = c .before .before .before .before .before .before .before in
     let s = start .before .before .args .store .now in
-    let g = got s (l .at) 8 _ (omega arith) (c .before .before .before .get64 .ensures) in
-    let e = sound-next s (l .at) false (omega arith) (λ k. c .before .before .if2 .left (g ∙ k)) (sym (c .if3 .left) ∙ c .before .held-later .ensures) in
+    let z = eqb-false _ _ (sym (c .before .before .before .no-cookie .ensures) ∙ c .before .before .if2 .left) in
+    let e = sound-next s (l .at) false (omega arith) z (sym (c .if3 .left) ∙ c .before .held-later .ensures) in
     (omega arith, omega arith, omega arith, l .inv .3 ∙ e)
 
 returns-4 : tie.Need-returns-4 Inv-loop μ-loop
@@ -91,7 +90,7 @@ wrong-spec =
     wrong-size-requires
     returns
     loop-holds
-    get64-requires
+    no-cookie-requires
     unused-from-requires
     returns-2
     held-later-requires
