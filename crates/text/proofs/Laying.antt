@@ -6,12 +6,15 @@ use Prim.Native.Nat.{ℕ, zero, suc, _+_, _-_, _*_, _%_, _<_, _≤_}
 use native.Mathlib.Omega.{arith}
 use borrow.Author.Tests.{leb-true, leb-false, eqb-false, eq-eqb, ne-eqb, lt-ltb, le-ltb}
 use lib.Dec.{leb, eqb}
-use lib.ListN.{length, drop, length-drop, drop-of-length-le}
-use lib.Seq.{drop-drop, drop-length}
+use lib.ListN.{length, take, drop, replicate, length-drop, drop-of-length-le}
+use lib.Seq.{take-all, drop-drop, drop-length}
 use Rattle.octets.specs.Number.{getAt, putAt}
+use Rattle.text.specs.declared.number.Value.{Value}
 use Rattle.text.specs.declared.octet_word.Run.{Run}
 use Rattle.text.specs.Numeral.{digitOf, value}
-use Rattle.text.specs.OctetWord.{runOf, pairOf, judged, fillFrom, layFrom, layOf}
+use Rattle.text.specs.OctetWord.{runOf, pairOf, judged, fillFrom, layFrom, layOf, octetsOf}
+use Rattle.text.specs.Line.{octetsAt}
+use Rattle.text.specs.Place.{pieceOf}
 
 -- one octet more
 pub fill-next : (b b′ : List ℕ) (from left octet : ℕ) → 0 < left → b′ ≡ putAt b (from + (left - 1)) 1 octet
@@ -102,3 +105,21 @@ module _ (s b : List ℕ) (a : ℕ) (e : a ≡ getAt s 0 1) where
 
   pub lay-all : (eqb (length s) 1 && eqb a 45) ≡ false → layFrom (length s) b 0 s ≡ layOf s b
   lay-all t = sym (ap (λ (k : Bool). cond k (value 0 0, b) (layFrom (length s) b 0 s)) t) ∙ lay-as
+
+-- THE OCTETS OF A WORD, where a buffer was laid
+
+module _ (s b b′ : List ℕ) (v : Value) (e : (v, b′) ≡ layOf s b) where
+  laid-as : take (v .value) b′ ≡ octetsOf s b
+  unfolding octetsOf
+  laid-as = ap (λ (w : Value × List ℕ). take (w .0 .value) (w .1)) e
+
+  pub laid-part : take (v .value - 0) b′ ≡ octetsOf s b
+  laid-part = let z : v .value - 0 ≡ v .value = omega arith in rw z laid-as
+
+  pub laid-all : length b′ < v .value → b′ ≡ octetsOf s b
+  laid-all h = sym (take-all (v .value) b′ (omega arith)) ∙ laid-as
+
+-- a word of a line, laid among zeros
+pub octets-at : (line word out : List ℕ) (n : ℕ) → word ≡ pieceOf line n 32 → out ≡ octetsOf word (replicate 4096 0) → out ≡ octetsAt line n
+unfolding octetsAt
+octets-at line word out n e f = f ∙ rw e

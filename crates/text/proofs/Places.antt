@@ -1,15 +1,15 @@
 -- Parts, places and pieces of a text. Assumes nothing.
 use mathlib.Core.Path.{_≡_, refl, sym, ap, _∙_}
-use mathlib.Core.Bool.{Bool, true, false, cond}
+use mathlib.Core.Bool.{Bool, true, false, cond, _&&_}
 use mathlib.Core.List.{List, [], _∷_}
 use Prim.Native.Nat.{ℕ, suc, _+_, _-_, _<_, _≤_}
 use native.Mathlib.Numerals.{add-one}
 use native.Mathlib.Omega.{arith}
-use borrow.Author.Tests.{le-leb, lt-leb, leb-true, leb-false}
-use lib.Dec.{leb}
+use borrow.Author.Tests.{le-leb, lt-leb, leb-true, leb-false, eq-eqb, eqb-true}
+use lib.Dec.{leb, eqb}
 use lib.ListN.{length, getD, take, drop, length-drop, drop-of-length-le}
 use lib.Seq.{take-all, drop-cons, drop-drop, drop-length}
-use Rattle.text.specs.Place.{partOf, fits, onward, ahead, placeOf, pieceFrom, pieceOf}
+use Rattle.text.specs.Place.{partOf, fits, onward, ahead, placeOf, pieceFrom, pieceOf, sameOf}
 
 -- a part that begins after its end is empty
 pub part-late : (s : List ℕ) (from to : ℕ) → to < from → [] ≡ partOf s from to
@@ -123,3 +123,30 @@ module _ (s : List ℕ) (number separator : ℕ) where
       let d = length-drop at s in
       let n : to - at ≡ length (drop at s) - length (onward separator true (drop at s)) = omega arith in
       rw (z, le-leb to (length s) (omega arith), n)
+
+-- SAME TEXTS
+
+same-refl : (a : List ℕ) → sameOf a a ≡ true
+unfolding sameOf
+same-refl [] = refl
+same-refl (x ∷ xs) = rw (eq-eqb x x refl) (same-refl xs)
+
+same-eq : (a b : List ℕ) → sameOf a b ≡ true → a ≡ b
+unfolding sameOf
+same-eq [] [] e = refl
+same-eq [] (y ∷ ys) e = let f : false ≡ true = e in cc
+same-eq (x ∷ xs) [] e = let f : false ≡ true = e in cc
+same-eq (x ∷ xs) (y ∷ ys) e = go (eqb x y) refl e (same-eq xs ys)
+  where
+    go : (t : Bool) → eqb x y ≡ t → (t && sameOf xs ys) ≡ true → (sameOf xs ys ≡ true → xs ≡ ys) → x ∷ xs ≡ y ∷ ys
+    go true f g k = let h = eqb-true x y f in let l = k g in cc
+    go false f g k = let h : false ≡ true = g in cc
+
+-- a test that is true exactly for equal texts
+pub same-as : (a b : List ℕ) (r : Bool) → (r ≡ true → a ≡ b) → (a ≡ b → r ≡ true) → r ≡ sameOf a b
+same-as a b true f g = let e = f refl in rw (← e) (sym (same-refl a))
+same-as a b false f g = go (sameOf a b) refl
+  where
+    go : (t : Bool) → sameOf a b ≡ t → false ≡ t
+    go true e = g (same-eq a b e)
+    go false e = refl

@@ -3,7 +3,7 @@ use mathlib.Core.Bool.{true, cond, _&&_}
 use mathlib.Core.List.{List}
 use Prim.Native.Nat.{ℕ, zero, suc, _+_, _-_, _*_, _%_}
 use lib.Dec.{eqb, leb, ltb}
-use lib.ListN.{length, drop}
+use lib.ListN.{length, take, drop}
 use Rattle.octets.specs.Number.{getAt, putAt}
 use Rattle.text.specs.declared.number.Value.{Value}
 use Rattle.text.specs.declared.octet_word.Run.{Run}
@@ -62,3 +62,7 @@ layFrom (suc turns) b count s =
 -- a minus sign is no octets
 unfoldable pub layOf : List ℕ → List ℕ → Value × List ℕ
 layOf s b = cond (eqb (length s) 1 && eqb (getAt s 0 1) 45) (value 0 0, b) (layFrom (length s) b 0 s)
+
+-- the octets that a word spells, laid in a buffer: as many of them as it has places for
+unfoldable pub octetsOf : List ℕ → List ℕ → List ℕ
+octetsOf s b = take (layOf s b .0 .value) (layOf s b .1)

@@ -1,5 +1,5 @@
 -- Parts of a text, the first place of an octet, and the pieces that stand between separators.
-use mathlib.Core.Bool.{Bool, true, false, cond, Bool·beq, _||_}
+use mathlib.Core.Bool.{Bool, true, false, cond, Bool·beq, _||_, _&&_}
 use mathlib.Core.List.{List, [], _∷_}
 use Prim.Native.Nat.{ℕ, zero, suc, _-_}
 use lib.Dec.{eqb, leb}
@@ -38,3 +38,10 @@ pieceFrom separator (suc n) s = pieceFrom separator n (onward separator false (o
 -- of any text: the separators at its start are passed over
 unfoldable pub pieceOf : List ℕ → ℕ → ℕ → List ℕ
 pieceOf s number separator = pieceFrom separator number (onward separator false s)
+
+-- two texts are the same
+unfoldable pub sameOf : List ℕ → List ℕ → Bool
+sameOf [] [] = true
+sameOf [] (y ∷ ys) = false
+sameOf (x ∷ xs) [] = false
+sameOf (x ∷ xs) (y ∷ ys) = eqb x y && sameOf xs ys

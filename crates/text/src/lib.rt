@@ -7,7 +7,7 @@ pub mod octet_word;
 
 ghost use mathlib.Core.Path.{_≡_};
 ghost use lib.ListN.{drop};
-ghost use Rattle.text.specs.Place.{plainOf, partOf, placeOf, pieceOf};
+ghost use Rattle.text.specs.Place.{plainOf, partOf, placeOf, pieceOf, sameOf};
 
 // The octets from..to, or none where the text has no such part.
 pub fn part(text: &[u8], from: usize, to: usize) -> &[u8]
@@ -66,4 +66,11 @@ pub fn piece(text: &[u8], number: usize, separator: u8) -> &[u8]
         k += 1;
     }
     part(text, at, find(text, at, separator, true))
+}
+
+// Whether two texts are the same.
+pub fn same(a: &[u8], b: &[u8]) -> bool
+    ensures { λ r. ⌜ r ≡ sameOf (now (a .entry)) (now (b .entry)) ⌝ }
+{
+    check::same(a, b)
 }

@@ -12,7 +12,7 @@ use octets::number::put8;
 ghost use mathlib.Core.Path.{_≡_};
 ghost use Prim.Native.Nat.{_+_, _≤_};
 ghost use lib.ListN.{length};
-ghost use Rattle.text.specs.OctetWord.{separatedAt, countedRun, runOf, pairOf, judged, fillFrom, layFrom, layOf};
+ghost use Rattle.text.specs.OctetWord.{separatedAt, countedRun, runOf, pairOf, judged, fillFrom, layFrom, layOf, octetsOf};
 
 // What can be wrong with a word that is to be octets.
 pub const NOT_OCTETS: u8 = 6;
@@ -167,4 +167,17 @@ pub fn lay(word: &[u8], buffer: &mut [u8]) -> Value
         };
     }
     lay_runs(word, buffer)
+}
+
+// The octets that a word spells, laid from the buffer's start on, as many of them as it has places for. They come back as a
+// part of the buffer, so that a caller has no end to prove; the rest of it is out of reach while the part is in use.
+pub fn octets_of<'a>(word: &[u8], buffer: &'a mut [u8]) -> &'a mut [u8]
+    ensures { λ r. ⌜ now r ≡ octetsOf (now (word .entry)) (now (buffer .entry)) ⌝ }
+{
+    let laid = lay(word, buffer);
+    let n = laid.value as usize;
+    if n <= buffer.len() {
+        return &mut buffer[0..n];
+    }
+    buffer
 }
