@@ -1,0 +1,2 @@
+-- Which call a line is.
+pub mod Rows
