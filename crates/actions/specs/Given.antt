@@ -1,13 +1,9 @@
 -- What the words of an `answer` line give the responder.
 use mathlib.Core.List.{List}
-use Prim.Native.Nat.{ℕ, _%_, _^_}
-use Rattle.text.specs.Line.{numberAt, signedAt}
+use Prim.Native.Nat.{ℕ}
+use Rattle.text.specs.Line.{numberAt, bitsAt, signedAt, octetsAt}
 use Rattle.responder.specs.Answer.{Given}
 use Rattle.responder.specs.declared.Server.{Server}
-
--- a word as a number of so many bits
-abbrev pub bitsAt : ℕ → List ℕ → ℕ → ℕ
-bitsAt bits line word = numberAt line word % 2 ^ bits
 
 -- the server's values, from the fifth word on
 abbrev pub serverOf : List ℕ → Server
@@ -23,9 +19,9 @@ serverOf line = record {
   «root_dispersion» = bitsAt 32 line 13;
 }
 
--- the second, third and fourth word, and octets that other words are
-abbrev pub givenOf : (line request filter information : List ℕ) → Given
-givenOf line request filter information = record {
+-- the second, third and fourth word, and octets
+abbrev pub givenFrom : (line request filter information : List ℕ) → Given
+givenFrom line request filter information = record {
   request = request;
   receive = numberAt line 2;
   estimate = numberAt line 3;
@@ -34,3 +30,7 @@ givenOf line request filter information = record {
   filter = filter;
   information = information;
 }
+
+-- the octets are the first, the fourteenth and the fifteenth word
+abbrev pub givenOf : List ℕ → Given
+givenOf line = givenFrom line (octetsAt line 1) (octetsAt line 14) (octetsAt line 15)

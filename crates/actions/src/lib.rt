@@ -1,71 +1,82 @@
-// The calls of a case file on the responder's store, each made with the numbers that a line's words are.
-use header::ServerCookie;
-use responder::Answered;
-use responder::Server;
-use text::line::i8_at;
-use text::line::u8_at;
-use text::line::u16_at;
-use text::line::u32_at;
-use text::line::u64_at;
-ghost use mathlib.Core.Path.{_≡_};
-ghost use Rattle.text.specs.Line.{numberAt};
-ghost use Rattle.store.specs.Row.{reporting};
-ghost use Rattle.responder.specs.Answer.{outcome, answerOf};
-ghost use Rattle.actions.specs.Given.{serverOf, givenOf};
+// The calls of a case file on the responder's store: each is made with the values of a line's words, and its result line
+// printed. A call's number is that of its row, from 0 on. `kept` is the store's length, two octets, and then its octets.
+mod answering;
 
-// report COOKIE TIME
-pub fn report(line: &[u8], store: &mut [u8]) -> u8
-    ensures { λ r. ⌜ (r, now (store .exit)) ≡ reporting (now (store .entry)) (numberAt (now (line .entry)) 1) (numberAt (now (line .entry)) 2) ⌝ }
+use header::ServerCookie;
+use octets::number;
+use octets::part;
+use text::line::u8_at;
+use text::line::u64_at;
+use text::octet_word::octets_of;
+use text::piece;
+ghost use mathlib.Core.Path.{_≡_};
+ghost use Prim.Native.Nat.{_+_, _*_, _≤_};
+ghost use lib.ListN.{length};
+ghost use Rattle.text.specs.Line.{bitsAt, octetsAt};
+ghost use Rattle.actions.specs.Kept.{lengthOf, storeReported, storeAfter, keptCleared, keptLent, keptAfter};
+
+// Where the store ends.
+fn end(kept: &[u8]) -> usize
+    ensures { λ r. ⌜ r ≡ lengthOf (now (kept .entry)) + 2 ⌝ }
 {
-    store::report(store, ServerCookie(u64_at(line, 1)), u64_at(line, 2))
+    (number::get16(kept, 0) % 4097) as usize + 2
 }
 
-fn server_of(line: &[u8]) -> Server
-    ensures { λ r. ⌜ r ≡ serverOf (now (line .entry)) ⌝ }
+// store N
+fn clear(line: &[u8], kept: &mut [u8]) -> u8
+    requires { ⌜ 4098 ≤ length (now kept) ⌝ }
+    ensures { λ r. ⌜ (r, now (kept .exit)) ≡ keptCleared (bitsAt 8 (now (line .entry)) 1 * 16) (now (kept .entry)) ⌝ }
 {
-    let leap = u8_at(line, 5);
-    let stratum = u8_at(line, 6);
-    let poll = i8_at(line, 7);
-    let precision = i8_at(line, 8);
-    let timescale = u8_at(line, 9);
-    let era = u8_at(line, 10);
-    let flags = u16_at(line, 11);
-    let root_delay = u32_at(line, 12);
-    let root_dispersion = u32_at(line, 13);
-    Server {
-        leap,
-        stratum,
-        poll,
-        precision,
-        timescale,
-        era,
-        flags,
-        root_delay,
-        root_dispersion,
+    let n = u8_at(line, 1) as usize * 16;
+    let refusal = store::clear(&mut kept[2..n + 2]);
+    if refusal == 0 {
+        number::put16(kept, 0, n as u16);
+    }
+    refusal
+}
+
+// lend OCTETS
+fn lend(row: &[u8], line: &[u8], kept: &mut [u8])
+    ensures { λ _. ⌜ now (kept .exit) ≡ keptLent (octetsAt (now (line .entry)) 1) (now (kept .entry)) ⌝ }
+{
+    let mut room = [0u8; 4096];
+    let octets = octets_of(piece(line, 1, b' '), &mut room);
+    let n = octets.len() % 4097;
+    number::put16(kept, 0, n as u16);
+    part::copy(kept, 2, octets, 0, n);
+    print::line(row, &[0], octets);
+}
+
+// report COOKIE TIME
+fn report(row: &[u8], line: &[u8], store: &mut [u8])
+    ensures { λ _. ⌜ now (store .exit) ≡ storeReported (now (line .entry)) (now (store .entry)) ⌝ }
+{
+    let refusal = store::report(store, ServerCookie(u64_at(line, 1)), u64_at(line, 2));
+    print::result(row, refusal, store);
+}
+
+// The calls that the store itself is lent to.
+fn on_store(call: usize, row: &[u8], line: &[u8], store: &mut [u8])
+    ensures { λ _. ⌜ now (store .exit) ≡ storeAfter call (now (line .entry)) (now (store .entry)) ⌝ }
+{
+    match call {
+        17 => report(row, line, store),
+        _ => answering::answer(row, line, store),
     }
 }
 
-// answer REQUEST RECEIVE ESTIMATE FRESH, the server's values, FILTER INFORMATION OUTPUT
-pub fn answer(
-    line: &[u8],
-    request: &[u8],
-    filter: &[u8],
-    information: &[u8],
-    output: &mut [u8],
-    store: &mut [u8],
-) -> Answered
-    ensures { λ r. ⌜ outcome r (now (output .exit)) (now (store .exit))
-        ≡ answerOf (givenOf (now (line .entry)) (now (request .entry)) (now (filter .entry)) (now (information .entry))) (now (store .entry)) (now (output .entry)) ⌝ }
+// The call of this number, and its result. What is printed is outside the logic. Octets too few for the longest store stay as
+// they are.
+pub fn run(call: usize, row: &[u8], line: &[u8], kept: &mut [u8])
+    ensures { λ _. ⌜ now (kept .exit) ≡ keptAfter call (now (line .entry)) (now (kept .entry)) ⌝ }
 {
-    responder::answer(
-        store,
-        request,
-        u64_at(line, 2),
-        u64_at(line, 3),
-        ServerCookie(u64_at(line, 4)),
-        server_of(line),
-        filter,
-        information,
-        output,
-    )
+    if kept.len() < 4098 {
+        return;
+    }
+    let end = end(kept);
+    match call {
+        15 => print::result(row, clear(line, kept), row),
+        16 => lend(row, line, kept),
+        _ => on_store(call, row, line, &mut kept[2..end]),
+    }
 }

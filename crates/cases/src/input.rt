@@ -1,9 +1,9 @@
 // The input as lines: each is gathered octet by octet and run when it ends.
 use crate::calls;
-use crate::words;
 use text::gather::Line;
 use text::gather::gather;
 use text::part;
+use text::piece;
 
 // Reads more of the input if all that was read has been gathered. The end of the input ends a line.
 fn refill(file: i32, text: &mut [u8], state: Line) -> Line {
@@ -22,21 +22,19 @@ fn refill(file: i32, text: &mut [u8], state: Line) -> Line {
     }
 }
 
-// Runs the whole line, or says that it is too long.
-fn run_whole(line: &[u8], state: Line, table: &mut [u8], kept: &mut [u8]) {
-    if state.length > line.len() {
-        print::problem(state.number, 0, words::TOO_LONG);
-        return;
-    }
-    calls::run(part(line, 0, state.length), state.number, table, kept);
-}
-
 // Runs the line if it has ended.
-fn finish(line: &[u8], state: Line, table: &mut [u8], kept: &mut [u8]) -> Line {
+fn finish(rows: &[u8], line: &[u8], state: Line, table: &mut [u8], kept: &mut [u8]) -> Line {
     if !state.ended {
         return state;
     }
-    run_whole(line, state, table, kept);
+    let call = rows::call_of(rows, line, state.length, state.number);
+    calls::run(
+        call,
+        piece(rows, call, b'\n'),
+        part(line, 0, state.length),
+        table,
+        kept,
+    );
     Line {
         number: std::num::wrapping_add_u64(state.number, 1),
         length: 0,
@@ -50,7 +48,7 @@ fn finish(line: &[u8], state: Line, table: &mut [u8], kept: &mut [u8]) -> Line {
 
 // Reads to the end of the input. A proved loop has to end, and nothing says that the input does: so the
 // loop counts its turns down, from a number that no run uses up.
-pub(crate) fn run_all(file: i32) {
+pub(crate) fn run_all(file: i32, rows: &[u8]) {
     let mut text = io::large_buffer();
     let mut line = io::large_buffer();
     let mut table = [0u8; 10240];
@@ -69,6 +67,6 @@ pub(crate) fn run_all(file: i32) {
         turns -= 1;
         state = refill(file, &mut text, state);
         state = gather(part(&text, 0, state.count), state, &mut line);
-        state = finish(&line, state, &mut table, &mut kept);
+        state = finish(rows, &line, state, &mut table, &mut kept);
     }
 }

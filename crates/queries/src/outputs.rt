@@ -5,7 +5,7 @@ use text::line::u16_at;
 use text::line::u32_at;
 use text::line::u64_at;
 use text::line::word_of;
-use text::octet_word::lay;
+use text::octet_word::octets_of;
 
 // The header of a line's first fourteen words.
 fn header_of(line: &[u8]) -> header::Header {
@@ -46,14 +46,10 @@ fn change(call: usize, line: &[u8], octets: &[u8], output: &mut [u8], table: &[u
     }
 }
 
-fn show(call: usize, row: &[u8], line: &[u8], octets: &[u8], output: &mut [u8], table: &[u8]) {
-    print::result(row, change(call, line, octets, output, table), output);
-}
-
 // The call of this number on the octets of its letter O, which are printed afterwards.
 pub(crate) fn make(call: usize, row: &[u8], line: &[u8], octets: &[u8], table: &[u8]) {
-    let mut output = io::buffer();
-    let laid = lay(word_of(line, row, b'O'), &mut output);
-    let n = (laid.value % 4097) as usize;
-    show(call, row, line, octets, &mut output[0..n], table);
+    let mut room = [0u8; 4096];
+    let output = octets_of(word_of(line, row, b'O'), &mut room);
+    let refusal = change(call, line, octets, output, table);
+    print::result(row, refusal, output);
 }

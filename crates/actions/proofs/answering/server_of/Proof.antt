@@ -3,8 +3,8 @@ use mathlib.Core.Path.{_∙_}
 use mir.Syntax.{w8}
 use mir.Facts.{toZ-ofZ}
 use borrow.Author.Needs.{needs}
-use Rattle.actions.proofs.server_of.Statement.{statement}
-use Rattle.actions.proofs.server_of.Tie as tie
+use Rattle.actions.proofs.answering.server_of.Statement.{statement}
+use Rattle.actions.proofs.answering.server_of.Tie as tie
 
 u8-at-requires : tie.Need-u8-at-requires
 u8-at-requires c κs = search needs

@@ -1,8 +1,8 @@
--- `answer` meets its contract: what it gives the responder is the line's. Assumes nothing.
+-- `answer_into` meets its contract: what it gives the responder is the line's. Assumes nothing.
 use mathlib.Core.Path.{_∙_}
 use borrow.Author.Needs.{needs}
-use Rattle.actions.proofs.answer.Statement.{statement}
-use Rattle.actions.proofs.answer.Tie as tie
+use Rattle.actions.proofs.answering.answer_into.Statement.{statement}
+use Rattle.actions.proofs.answering.answer_into.Tie as tie
 
 u64-at-requires : tie.Need-u64-at-requires
 u64-at-requires c κs = search needs
@@ -35,8 +35,8 @@ returns c =
     at-answer .answer .ensures
     ∙ rw (at-receive .u64-at .ensures, at-estimate .u64-at2 .ensures, at-fresh .u64-at3 .ensures, at-server .server-of .ensures)
 
-pub answer-spec : {M : Type 1} → statement M
-answer-spec =
+pub answer-into-spec : {M : Type 1} → statement M
+answer-into-spec =
     tie.close
     (tie.spec
     u64-at-requires

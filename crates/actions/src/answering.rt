@@ -1,0 +1,103 @@
+// answer REQUEST RECEIVE ESTIMATE FRESH, the server's values, FILTER INFORMATION OUTPUT
+use header::ServerCookie;
+use print::convert::from_u16;
+use responder::Answered;
+use responder::Server;
+use text::line::i8_at;
+use text::line::u8_at;
+use text::line::u16_at;
+use text::line::u32_at;
+use text::line::u64_at;
+use text::octet_word::octets_of;
+use text::piece;
+ghost use mathlib.Core.Path.{_≡_};
+ghost use Rattle.text.specs.Line.{octetsAt};
+ghost use Rattle.responder.specs.Answer.{outcome, answerOf};
+ghost use Rattle.actions.specs.Given.{serverOf, givenFrom};
+ghost use Rattle.actions.specs.Kept.{storeAnswered};
+
+fn server_of(line: &[u8]) -> Server
+    ensures { λ r. ⌜ r ≡ serverOf (now (line .entry)) ⌝ }
+{
+    let leap = u8_at(line, 5);
+    let stratum = u8_at(line, 6);
+    let poll = i8_at(line, 7);
+    let precision = i8_at(line, 8);
+    let timescale = u8_at(line, 9);
+    let era = u8_at(line, 10);
+    let flags = u16_at(line, 11);
+    let root_delay = u32_at(line, 12);
+    let root_dispersion = u32_at(line, 13);
+    Server {
+        leap,
+        stratum,
+        poll,
+        precision,
+        timescale,
+        era,
+        flags,
+        root_delay,
+        root_dispersion,
+    }
+}
+
+fn answer_into(
+    line: &[u8],
+    request: &[u8],
+    filter: &[u8],
+    information: &[u8],
+    output: &mut [u8],
+    store: &mut [u8],
+) -> Answered
+    ensures { λ r. ⌜ outcome r (now (output .exit)) (now (store .exit))
+        ≡ answerOf (givenFrom (now (line .entry)) (now (request .entry)) (now (filter .entry)) (now (information .entry))) (now (store .entry)) (now (output .entry)) ⌝ }
+{
+    responder::answer(
+        store,
+        request,
+        u64_at(line, 2),
+        u64_at(line, 3),
+        ServerCookie(u64_at(line, 4)),
+        server_of(line),
+        filter,
+        information,
+        output,
+    )
+}
+
+fn show(row: &[u8], answered: Answered, output: &[u8]) {
+    match answered {
+        Answered::Refused(number) => print::result(row, number, row),
+        Answered::Written(length) => print::line(row, &[0, from_u16(length), 0], output),
+    }
+}
+
+fn answer_to(
+    row: &[u8],
+    line: &[u8],
+    request: &[u8],
+    filter: &[u8],
+    information: &[u8],
+    store: &mut [u8],
+)
+    ensures { λ _. ⌜ now (store .exit)
+        ≡ answerOf (givenFrom (now (line .entry)) (now (request .entry)) (now (filter .entry)) (now (information .entry))) (now (store .entry)) (octetsAt (now (line .entry)) 16) .store ⌝ }
+{
+    let mut room = [0u8; 4096];
+    let output = octets_of(piece(line, 16, b' '), &mut room);
+    let answered = answer_into(line, request, filter, information, output, store);
+    show(row, answered, output);
+}
+
+// The octet words that an answer reads; the output has a function of its own.
+pub(crate) fn answer(row: &[u8], line: &[u8], store: &mut [u8])
+    ensures { λ _. ⌜ now (store .exit) ≡ storeAnswered (now (line .entry)) (now (store .entry)) ⌝ }
+{
+    let mut first = [0u8; 4096];
+    let mut second = [0u8; 4096];
+    let mut third = [0u8; 4096];
+    let request = octets_of(piece(line, 1, b' '), &mut first);
+    let filter = octets_of(piece(line, 14, b' '), &mut second);
+    let information = octets_of(piece(line, 15, b' '), &mut third);
+    answer_to(row, line, request, filter, information, store);
+}
