@@ -3,7 +3,7 @@
 
 Everything in backticks there is a file, or a file and a name in it after a colon. Fails, with a line for each, if a file is
 gone, if a name is not defined in its file, or if a row of a table lacks a cell. So a theorem that nothing else cites can't
-be lost or renamed in silence.
+be lost or renamed in silence. The edits that docs/IDLE.md names have to be there as well.
 """
 import os
 import re
@@ -11,6 +11,7 @@ import sys
 
 ROOT = os.path.join(os.path.dirname(os.path.abspath(__file__)), "..")
 PAGE = "docs/TRACE.md"
+IDLE = "docs/IDLE.md"
 CELLS = 4       # rule, definition, promise or theorem, edit or test
 
 # How a line that defines a name begins, by the file's ending. A case file has no names: a comment there begins with the text.
@@ -50,6 +51,15 @@ def fault(name):
     return f"{path} does not define {inner}"
 
 
+def idle_faults():
+    """The edits that docs/IDLE.md names, as `CRATE/NAME`, and that are not there."""
+    with open(os.path.join(ROOT, IDLE), encoding="utf-8") as text:
+        edits = re.findall(r"`(\w+)/(\w+)`", text.read())
+    if not edits:
+        return [f"{IDLE}: no edits"]
+    return [f"{IDLE}: no edit {crate}/{name}" for crate, name in edits if not find(f"{crate}/must-fail/{name}.edit")]
+
+
 def main():
     with open(os.path.join(ROOT, PAGE), encoding="utf-8") as text:
         lines = text.read().split("\n")
@@ -67,6 +77,7 @@ def main():
             wrong = fault(name)
             if wrong:
                 faults.append(f"{PAGE}:{number}: {wrong}")
+    faults += idle_faults()
     if not rules:
         faults.append(f"{PAGE}: no rules")
     if faults:
