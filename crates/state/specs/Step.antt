@@ -1,4 +1,4 @@
--- What each event does to an association's record.
+-- What each event does to an association's numbers.
 use mathlib.Core.Bool.{Bool, cond, not, _&&_, _||_}
 use Prim.Native.Nat.{ℕ, _+_}
 use lib.Dec.{eqb, ltb}

@@ -1,4 +1,4 @@
-// Whether the numbers of a record are in the ranges that document 01 gives them.
+// Whether the numbers of an association are in the ranges that document 01 gives them.
 use crate::head::Head;
 use crate::head::Request;
 use crate::head::Saved;

@@ -1,4 +1,4 @@
-// What each event does to the numbers of a record.
+// What each event does to the numbers of an association.
 use crate::event::Event;
 use crate::event::Reply;
 use crate::head;
