@@ -5,7 +5,7 @@ use mathlib.Core.List.{List, [], _∷_, _++_, map}
 use Prim.Native.Nat.{ℕ, _+_}
 use lib.Dec.{eqb, ltb}
 use lib.ListN.{length, take, drop, replicate}
-use Rattle.store.specs.Row.{Record, held, timeOf, reported, usedOf, soundRecords}
+use Rattle.store.specs.Row.{Record, held, reported, usedOf, soundRecords, refusedReport}
 use Rattle.records.specs.declared.Record.{Record as Slot}
 
 -- ---- the one conversion: a record of a slice is a record of the row
@@ -34,12 +34,9 @@ wrongRecords rs = wrongCount (length rs) || not (soundRecords rs)
 unfoldable pub clearRecords : List Record → ℕ × List Record
 clearRecords rs = cond (wrongCount (length rs)) (6, rs) (0, replicate (length rs) vacant)
 
--- a report of a cookie's time: 6 for the records or a time 0; 12 where the cookie is not in the row or has its time
+-- a report of a cookie's time
 abbrev pub reportRefusal : List Record → ℕ → ℕ → ℕ
-reportRefusal rs c t =
-    cond (wrongRecords rs || eqb t 0) 6
-    (cond (not (held c (usedOf rs)) || not (eqb (timeOf c (usedOf rs)) 0)) 12
-    0)
+reportRefusal rs c t = refusedReport (wrongRecords rs) (usedOf rs) c t
 
 unfoldable pub reportRecords : List Record → ℕ → ℕ → ℕ × List Record
 reportRecords rs c t = cond (eqb (reportRefusal rs c t) 0) (0, reported c t rs) (reportRefusal rs c t, rs)

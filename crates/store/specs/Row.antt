@@ -92,12 +92,15 @@ wrongStore s = wrongSize s || not (soundRecords (recordsOf s))
 unfoldable pub cleared : List ℕ → ℕ × List ℕ
 cleared s = cond (wrongSize s) (6, s) (0, storeOctets (sizeOf s) [])
 
--- a report of a cookie's time: 6 for the store or a time 0; 12 where the cookie is not in the store or has its time
-abbrev pub reportRefusal : List ℕ → ℕ → ℕ → ℕ
-reportRefusal s c t =
-    cond (wrongStore s || eqb t 0) 6
-    (cond (not (held c (rowOf s)) || not (eqb (timeOf c (rowOf s)) 0)) 12
+-- a report of a cookie's time: 6 for the store or a time 0; 12 where the cookie is not in the row or has its time
+abbrev pub refusedReport : (wrong : Bool) (row : List Record) (c t : ℕ) → ℕ
+refusedReport wrong row c t =
+    cond (wrong || eqb t 0) 6
+    (cond (not (held c row) || not (eqb (timeOf c row) 0)) 12
     0)
+
+abbrev pub reportRefusal : List ℕ → ℕ → ℕ → ℕ
+reportRefusal s c t = refusedReport (wrongStore s) (rowOf s) c t
 
 unfoldable pub reporting : List ℕ → ℕ → ℕ → ℕ × List ℕ
 reporting s c t =
