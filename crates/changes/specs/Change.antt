@@ -5,8 +5,8 @@ use Prim.Native.Nat.{ℕ}
 use lib.Dec.{eqb}
 use Rattle.text.specs.Line.{numberAt, bitsAt, signedAt, octetsAt}
 use Rattle.text.specs.Place.{pieceOf, sameOf}
-use Rattle.client.specs.Call.{Call, clearTable, openOne, closeOne, poll, sent, receive}
-use Rattle.client.specs.Octets.{stepOctets}
+use Rattle.client_rules.specs.Call.{Call, clearTable, openOne, closeOne, poll, sent, receive}
+use Rattle.client_rules.specs.Octets.{stepOctets}
 
 -- a word is `interleaved`; any other is basic
 abbrev pub interleavedAt : List ℕ → ℕ → Bool

@@ -11,8 +11,8 @@ use text::octet_word::octets_of;
 use text::piece;
 ghost use mathlib.Core.Path.{_≡_};
 ghost use mathlib.Core.List.{[]};
-ghost use Rattle.client.specs.Call.{plainAnswer};
-ghost use Rattle.client.specs.Octets.{stepOctets};
+ghost use Rattle.client_rules.specs.Call.{plainAnswer};
+ghost use Rattle.client_rules.specs.Octets.{stepOctets};
 ghost use Rattle.client.specs.Answers.{isInterleaved};
 ghost use Rattle.changes.specs.Change.{interleavedAt, pollOf, receiveOf, changeOf, tableAfter};
 

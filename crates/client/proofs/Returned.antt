@@ -15,9 +15,9 @@ use Rattle.filter.specs.Filter.{addAll, containsAll}
 use Rattle.filter.specs.Positions.{positions}
 use Rattle.exchange.specs.Request.{requestWritten}
 use Rattle.state.specs.declared.event.Reply.{Reply}
-use Rattle.client.specs.Call.{Answer, plainAnswer, writtenAnswer, verdictAnswer, acceptedAnswer, pollAnswer, receiveAnswer, clearTable}
-use Rattle.client.specs.Select.{Seen, verdictFor, allSelected, inRangeSeen, completeSeen, publishedFilter}
-use Rattle.client.specs.Octets.{tableOctets, seenOctets, clearOctets, publishOctets, stepOctets}
+use Rattle.client_rules.specs.Call.{Answer, plainAnswer, writtenAnswer, verdictAnswer, acceptedAnswer, pollAnswer, receiveAnswer, clearTable}
+use Rattle.client_rules.specs.Select.{Seen, verdictFor, allSelected, inRangeSeen, completeSeen, publishedFilter}
+use Rattle.client_rules.specs.Octets.{tableOctets, seenOctets, clearOctets, publishOctets, stepOctets}
 use Rattle.client.proofs.Rooms.{Room}
 
 pub cleared-not : (t : List ℕ) → (length t ≡ tableOctets → ⊥) → (plainAnswer 6 [], t) ≡ stepOctets clearTable t

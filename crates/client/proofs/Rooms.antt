@@ -18,7 +18,7 @@ use Rattle.state.specs.declared.head.Change.{Change}
 use Rattle.association.proofs.Reached.{by-test}
 use Rattle.state.proofs.Ranges.{open-ranges}
 use Rattle.association.proofs.Records.{laid-reply}
-use Rattle.client.specs.Octets.{tableOctets, part, atOctets}
+use Rattle.client_rules.specs.Octets.{tableOctets, part, atOctets}
 
 pub record Room (r : Reply) (room : ℕ) : Type 0 where
   pub low : 16 ≤ r .asked .chunk

@@ -10,8 +10,8 @@ use lib.ListN.{length}
 use lib.Pow.{shr-shr}
 use Rattle.filter.specs.Filter.{union, ofId}
 use Rattle.filter.proofs.Uniting.{length-union}
-use Rattle.client.specs.Call.{bit}
-use Rattle.client.specs.Select.{Seen, allSelected, inRangeSeen, completeSeen, joined, publishedFilter}
+use Rattle.client_rules.specs.Call.{bit}
+use Rattle.client_rules.specs.Select.{Seen, allSelected, inRangeSeen, completeSeen, joined, publishedFilter}
 use Rattle.client.specs.Answers.{selectionRefusal}
 
 -- the bit of an association, once those before it were shifted out

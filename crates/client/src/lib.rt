@@ -11,8 +11,8 @@ use state::event::Event;
 use state::event::Reply;
 ghost use mathlib.Core.Path.{_≡_};
 ghost use mathlib.Core.List.{[]};
-ghost use Rattle.client.specs.Call.{clearTable, openOne, closeOne, poll, sent, receive, loopVerdict, publish, plainAnswer};
-ghost use Rattle.client.specs.Octets.{tableOctets, stepOctets};
+ghost use Rattle.client_rules.specs.Call.{clearTable, openOne, closeOne, poll, sent, receive, loopVerdict, publish, plainAnswer};
+ghost use Rattle.client_rules.specs.Octets.{tableOctets, stepOctets};
 ghost use Rattle.client.specs.Answers.{isInterleaved, polledAnswer, measuredOf, receivedAnswer, verdictAnswerOf, publishedAnswer};
 
 // The mode that a poll wants.

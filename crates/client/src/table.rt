@@ -9,7 +9,7 @@ ghost use Prim.Native.Nat.{_<_};
 ghost use lib.ListN.{length, drop};
 ghost use Rattle.state.specs.declared.event.Event.the-variants.{Look};
 ghost use Rattle.filter.specs.Filter.{containsAll};
-ghost use Rattle.client.specs.Octets.{part, atOctets};
+ghost use Rattle.client_rules.specs.Octets.{part, atOctets};
 
 // An event: 6 for a table of the wrong size or an association above 15.
 pub(crate) fn apply(table: &mut [u8], association: u8, event: Event, datagram: &[u8]) -> Reply

@@ -5,7 +5,7 @@ use Prim.Native.Nat.{ℕ}
 use Rattle.filter.specs.Calls.{numbers}
 use Rattle.filter.specs.declared.Weighing.{Weighing}
 use Rattle.filter.specs.declared.Weighing.the-variants as weighing
-use Rattle.client.specs.Call.{Answer}
+use Rattle.client_rules.specs.Call.{Answer}
 use Rattle.client.specs.Answers.{polledAnswer, publishedAnswer, receivedAnswer, verdictAnswerOf}
 use Rattle.client.specs.declared.Polled.{Polled}
 use Rattle.client.specs.declared.Polled.the-variants as polled

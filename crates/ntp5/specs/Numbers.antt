@@ -4,7 +4,7 @@ use Prim.Native.Nat.{ℕ}
 use lib.IntN.{pos}
 use Rattle.filter.specs.declared.Weighing.{Weighing}
 use Rattle.filter.specs.declared.Weighing.the-variants as weighing
-use Rattle.client.specs.Call.{Answer}
+use Rattle.client_rules.specs.Call.{Answer}
 use Rattle.client.specs.declared.Polled.{Polled}
 use Rattle.client.specs.declared.Polled.the-variants as polled
 use Rattle.client.specs.declared.Received.the-variants as received

@@ -6,8 +6,8 @@ use crate::answers::Written;
 use header::ClientCookie;
 ghost use mathlib.Core.Path.{_≡_};
 ghost use mathlib.Core.List.{[]};
-ghost use Rattle.client.specs.Call.{clearTable, openOne, closeOne, poll, sent, receive, loopVerdict, publish, plainAnswer};
-ghost use Rattle.client.specs.Octets.{tableOctets, stepOctets};
+ghost use Rattle.client_rules.specs.Call.{clearTable, openOne, closeOne, poll, sent, receive, loopVerdict, publish, plainAnswer};
+ghost use Rattle.client_rules.specs.Octets.{tableOctets, stepOctets};
 ghost use Rattle.ntp5.specs.Numbers.{writtenNumbers, receivedNumbers, verdictNumbers};
 
 #[no_mangle]

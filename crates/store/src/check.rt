@@ -31,19 +31,31 @@ fn unused_from(store: &[u8], from: usize) -> bool
     true
 }
 
-// Whether two records have the same cookie. Octet by octet compiles to one comparison; numbers would be turned round first.
-fn same_cookie(store: &[u8], a: usize, b: usize) -> bool
-    requires { ⌜ (a + 8 ≤ length (now store)) × (b + 8 ≤ length (now store)) ⌝ }
-    ensures { λ r. ⌜ r ≡ eqb (num (now (store .entry)) a 8) (num (now (store .entry)) b 8) ⌝ }
+// Whether the four octets at two places are the same. Octet by octet compiles to one comparison; numbers would be turned round first.
+fn same_half(store: &[u8], a: usize, b: usize) -> bool
+    requires { ⌜ (a + 4 ≤ length (now store)) × (b + 4 ≤ length (now store)) ⌝ }
+    ensures { λ r. ⌜ r ≡ eqb (num (now (store .entry)) a 4) (num (now (store .entry)) b 4) ⌝ }
 {
     (store[a] == store[b])
         & (store[a + 1] == store[b + 1])
         & (store[a + 2] == store[b + 2])
         & (store[a + 3] == store[b + 3])
-        & (store[a + 4] == store[b + 4])
-        & (store[a + 5] == store[b + 5])
-        & (store[a + 6] == store[b + 6])
-        & (store[a + 7] == store[b + 7])
+}
+
+// Whether two records have the same cookie.
+fn same_cookie(store: &[u8], a: usize, b: usize) -> bool
+    requires { ⌜ (a + 8 ≤ length (now store)) × (b + 8 ≤ length (now store)) ⌝ }
+    ensures { λ r. ⌜ r ≡ eqb (num (now (store .entry)) a 8) (num (now (store .entry)) b 8) ⌝ }
+{
+    same_half(store, a, b) & same_half(store, a + 4, b + 4)
+}
+
+// Whether the four octets at a place are 0.
+fn zero_half(store: &[u8], at: usize) -> bool
+    requires { ⌜ at + 4 ≤ length (now store) ⌝ }
+    ensures { λ r. ⌜ r ≡ eqb (num (now (store .entry)) at 4) 0 ⌝ }
+{
+    (store[at] == 0) & (store[at + 1] == 0) & (store[at + 2] == 0) & (store[at + 3] == 0)
 }
 
 // Whether a record's cookie is 0.
@@ -51,14 +63,7 @@ fn no_cookie(store: &[u8], at: usize) -> bool
     requires { ⌜ at + 8 ≤ length (now store) ⌝ }
     ensures { λ r. ⌜ r ≡ eqb (num (now (store .entry)) at 8) 0 ⌝ }
 {
-    (store[at] == 0)
-        & (store[at + 1] == 0)
-        & (store[at + 2] == 0)
-        & (store[at + 3] == 0)
-        & (store[at + 4] == 0)
-        & (store[at + 5] == 0)
-        & (store[at + 6] == 0)
-        & (store[at + 7] == 0)
+    zero_half(store, at) & zero_half(store, at + 4)
 }
 
 // Whether a record after the one at a place has its cookie.

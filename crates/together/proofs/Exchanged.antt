@@ -18,14 +18,14 @@ use Rattle.state.specs.declared.event.Event.the-variants.{Receive}
 use Rattle.state.specs.declared.event.Reply.{Reply}
 use Rattle.association.proofs.Reached.{GoodPlace, GoodOpened}
 use Rattle.order.specs.Order.{after}
-use Rattle.client.specs.Call.{receive, Typed, Answer, receiveAnswer}
-use Rattle.client.specs.Plain.{closedTable, stepPlain, encodeAll}
-use Rattle.client.specs.Claim.{placeAfter}
-use Rattle.client.proofs.Tables.{GoodTable, good-at}
-use Rattle.client.proofs.Simulate.{at-in}
-use Rattle.client.proofs.Pasted.{within}
-use Rattle.client.proofs.Demand3.{simulates, good-reached, call-reached, octet-at}
-use Rattle.client.proofs.Demand2.{accepts}
+use Rattle.client_rules.specs.Call.{receive, Typed, Answer, receiveAnswer}
+use Rattle.client_rules.specs.Plain.{closedTable, stepPlain, encodeAll}
+use Rattle.client_rules.specs.Claim.{placeAfter}
+use Rattle.client_rules.proofs.Tables.{GoodTable, good-at}
+use Rattle.client_rules.proofs.Simulate.{at-in}
+use Rattle.client_rules.proofs.Pasted.{within}
+use Rattle.client_rules.proofs.Demand3.{simulates, good-reached, call-reached, octet-at}
+use Rattle.client_rules.proofs.Demand2.{accepts}
 use Rattle.store.specs.Row.{rowOf}
 use Rattle.responder.specs.Answer.{Given, answerRefusal, answerOctets, answerOf}
 use Rattle.responder.proofs.Accepting.{answer-accepted, answer-written, answer-number, answer-given}

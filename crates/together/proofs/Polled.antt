@@ -20,12 +20,12 @@ use Rattle.association.proofs.Reached.{GoodPlace, GoodOpened, good-step}
 use Rattle.order.specs.Order.{TaggedCall, after, EveryCall}
 use Rattle.order.proofs.Permutations.{every-left, every-right}
 use Rattle.order.proofs.Simulate.{after-append}
-use Rattle.client.specs.Call.{Call, Typed, Answer, plainAnswer, writtenAnswer, pollAnswer}
-use Rattle.client.specs.Plain.{closedTable, atPlace, stepPlain}
-use Rattle.client.specs.Claim.{placeAfter}
-use Rattle.client.proofs.Tables.{GoodTable, good-at}
-use Rattle.client.proofs.Simulate.{at-in, at-out}
-use Rattle.client.proofs.Demand3.{simulates, good-reached, call-reached}
+use Rattle.client_rules.specs.Call.{Call, Typed, Answer, plainAnswer, writtenAnswer, pollAnswer}
+use Rattle.client_rules.specs.Plain.{closedTable, atPlace, stepPlain}
+use Rattle.client_rules.specs.Claim.{placeAfter}
+use Rattle.client_rules.proofs.Tables.{GoodTable, good-at}
+use Rattle.client_rules.proofs.Simulate.{at-in, at-out}
+use Rattle.client_rules.proofs.Demand3.{simulates, good-reached, call-reached}
 use Rattle.together.specs.Together.{Polling, pollOf, polled, callsOf, Asks}
 use Rattle.together.proofs.Served.{Ranges}
 use Rattle.together.proofs.Waiting.{askedOf, Polled, polled-place, Waits, polled-waits, calls-wait}

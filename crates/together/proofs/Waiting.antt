@@ -17,11 +17,11 @@ use Rattle.state.specs.declared.event.Event.the-variants.{Poll, Sent}
 use Rattle.state.specs.declared.event.Reply.{Reply}
 use Rattle.association.proofs.Reached.{by-test, by-request}
 use Rattle.order.specs.Order.{TaggedCall, after, EveryCall}
-use Rattle.client.specs.Call.{Call, clearTable, openOne, closeOne, poll, sent, receive, loopVerdict, publish, Typed}
-use Rattle.client.specs.Plain.{atPlace, stepPlain}
-use Rattle.client.proofs.Tables.{GoodTable}
-use Rattle.client.proofs.Simulate.{at-in, at-other}
-use Rattle.client.proofs.Demand3.{simulates}
+use Rattle.client_rules.specs.Call.{Call, clearTable, openOne, closeOne, poll, sent, receive, loopVerdict, publish, Typed}
+use Rattle.client_rules.specs.Plain.{atPlace, stepPlain}
+use Rattle.client_rules.proofs.Tables.{GoodTable}
+use Rattle.client_rules.proofs.Simulate.{at-in, at-other}
+use Rattle.client_rules.proofs.Demand3.{simulates}
 use Rattle.together.specs.Together.{leavesRequest}
 
 -- what a poll asks of an open place

@@ -8,9 +8,9 @@ use lib.IntN.{ℤ}
 use lib.ListN.{length, getD, take}
 use Rattle.octets.specs.Number.{Octets, num}
 use Rattle.order.specs.Order.{TaggedCall, EveryCall}
-use Rattle.client.specs.Call.{Call, clearTable, openOne, closeOne, poll, sent, receive, loopVerdict, publish, Typed, Answer}
-use Rattle.client.specs.Octets.{tableOctets, stepOctets}
-use Rattle.client.specs.Claim.{reached}
+use Rattle.client_rules.specs.Call.{Call, clearTable, openOne, closeOne, poll, sent, receive, loopVerdict, publish, Typed, Answer}
+use Rattle.client_rules.specs.Octets.{tableOctets, stepOctets}
+use Rattle.client_rules.specs.Claim.{reached}
 use Rattle.store.specs.Row.{rowOf}
 use Rattle.responder.specs.Answer.{Given, Outcome, answerOf}
 use Rattle.responder.specs.Claim.{InRange}

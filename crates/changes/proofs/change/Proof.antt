@@ -1,7 +1,7 @@
 -- `change` meets its contract: each call has the values of its words. Assumes nothing.
 use mathlib.Core.Path.{ap, _∙_}
-use Rattle.client.specs.Call.{Call}
-use Rattle.client.specs.Octets.{stepOctets}
+use Rattle.client_rules.specs.Call.{Call}
+use Rattle.client_rules.specs.Octets.{stepOctets}
 use Rattle.changes.proofs.Changing.{change-clear, change-open, change-close, change-sent}
 use borrow.Author.Needs.{needs}
 use Rattle.changes.proofs.change.Statement.{statement}

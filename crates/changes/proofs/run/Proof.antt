@@ -2,7 +2,7 @@
 use mathlib.Core.Path.{ap}
 use mathlib.Core.List.{List}
 use Prim.Native.Nat.{ℕ}
-use Rattle.client.specs.Call.{Answer}
+use Rattle.client_rules.specs.Call.{Answer}
 use Rattle.changes.proofs.Changing.{call-poll, call-receive, call-change, after}
 use borrow.Author.Needs.{needs}
 use Rattle.changes.proofs.run.Statement.{statement}

@@ -12,8 +12,8 @@ use mir.Facts.{toZ-ofZ}
 use Rattle.exchange.specs.Request.{requestWritten}
 use Rattle.state.specs.declared.event.Reply.{Reply}
 use Rattle.state.specs.declared.event.Event.the-variants.{Poll}
-use Rattle.client.specs.Call.{Answer, writtenAnswer, pollAnswer}
-use Rattle.client.specs.Octets.{atOctets}
+use Rattle.client_rules.specs.Call.{Answer, writtenAnswer, pollAnswer}
+use Rattle.client_rules.specs.Octets.{atOctets}
 use Rattle.client.specs.Answers.{isInterleaved}
 use Rattle.client.proofs.Rooms.{Room, poll-room}
 use Rattle.client.proofs.Returned.{answered, poll-refused, poll-written}

@@ -5,14 +5,14 @@ use Prim.Native.Nat.{ℕ, _+_, _-_, _≤_, _/_, _^_}
 use native.Mathlib.Omega.{arith}
 use lib.ListN.{length}
 use Rattle.filter.specs.Filter.{fresh, union}
-use Rattle.client.specs.Octets.{seenOctets}
-use Rattle.client.specs.Select as Select
+use Rattle.client_rules.specs.Octets.{seenOctets}
+use Rattle.client_rules.specs.Select as Select
 use mathlib.Core.List.{List}
 use Rattle.client.proofs.Selection.{halved, bit-of, join-next, join-end, kept}
 use borrow.Author.Tests.{eq-eqb, ne-eqb}
 use Rattle.client.proofs.Lent.{filter-is}
 use mathlib.Core.Logic.{⊎-elim}
-use Rattle.client.specs.Call.{bit}
+use Rattle.client_rules.specs.Call.{bit}
 use borrow.Author.Needs.{needs}
 use Rattle.client.proofs.publishing.join.Statement.{statement}
 use Rattle.client.proofs.publishing.join.Tie as tie

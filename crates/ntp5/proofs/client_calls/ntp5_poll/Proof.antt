@@ -5,8 +5,8 @@ use lib.IntN.{ℤ}
 use mir.Syntax.{w8}
 use mir.Val.{toZ, ofZ}
 use mir.Facts.{toZ-ofZ}
-use Rattle.client.specs.Call.{poll}
-use Rattle.client.specs.Octets.{stepOctets}
+use Rattle.client_rules.specs.Call.{poll}
+use Rattle.client_rules.specs.Octets.{stepOctets}
 use Rattle.client.specs.Answers.{isInterleaved}
 use Rattle.ntp5.proofs.Told.{polled-told}
 use borrow.Author.Needs.{needs}

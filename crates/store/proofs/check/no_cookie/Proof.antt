@@ -1,75 +1,26 @@
--- `no_cookie` meets its contract: eight octets decide. Assumes nothing.
-use mathlib.Core.Path.{sym, _∙_}
-use Rattle.store.proofs.Sames.{num-zero, zero-eight}
+-- `no_cookie` meets its contract: both halves decide. Assumes nothing.
+use mathlib.Core.Path.{sym, ap₂, _∙_}
+use mathlib.Core.Bool.{_&&_}
+use Rattle.store.proofs.Sames.{zero-halves}
 use borrow.Author.Needs.{needs}
 use Rattle.store.proofs.check.no_cookie.Statement.{statement}
 use Rattle.store.proofs.check.no_cookie.Tie as tie
 
-shared-slice-read-result : tie.Need-shared-slice-read-result
-shared-slice-read-result c = search needs
+zero-half-requires : tie.Need-zero-half-requires
+zero-half-requires c κs = search needs
 
-add-result : tie.Need-add-result
-add-result c = search needs
+add-zero-half : tie.Need-add-zero-half
+add-zero-half c = search needs
 
-shared-slice-read-result-2 : tie.Need-shared-slice-read-result-2
-shared-slice-read-result-2 c = search needs
-
-add-result-2 : tie.Need-add-result-2
-add-result-2 c = search needs
-
-shared-slice-read-result-3 : tie.Need-shared-slice-read-result-3
-shared-slice-read-result-3 c = search needs
-
-add-result-3 : tie.Need-add-result-3
-add-result-3 c = search needs
-
-shared-slice-read-result-4 : tie.Need-shared-slice-read-result-4
-shared-slice-read-result-4 c = search needs
-
-add-result-4 : tie.Need-add-result-4
-add-result-4 c = search needs
-
-shared-slice-read-result-5 : tie.Need-shared-slice-read-result-5
-shared-slice-read-result-5 c = search needs
-
-add-result-5 : tie.Need-add-result-5
-add-result-5 c = search needs
-
-shared-slice-read-result-6 : tie.Need-shared-slice-read-result-6
-shared-slice-read-result-6 c = search needs
-
-add-result-6 : tie.Need-add-result-6
-add-result-6 c = search needs
-
-shared-slice-read-result-7 : tie.Need-shared-slice-read-result-7
-shared-slice-read-result-7 c = search needs
-
-add-result-7 : tie.Need-add-result-7
-add-result-7 c = search needs
-
-shared-slice-read-result-8 : tie.Need-shared-slice-read-result-8
-shared-slice-read-result-8 c = search needs
+zero-half-requires-2 : tie.Need-zero-half-requires-2
+zero-half-requires-2 c κs = search needs
 
 returns : tie.Need-returns
-returns c = sym (num-zero _ _ 8 (λ i. c .shared-slice-known8 .given i .fits) ∙ zero-eight _ _)
+returns c =
+    let known = c .before .before in
+    let a = known .before .args in
+    ap₂ _&&_ (c .before .zero-half .ensures) (c .zero-half2 .ensures)
+    ∙ sym (zero-halves (a .store .now) (a .at) 4 4 (λ i. known .shared-slice-known .given i .fits))
 
 pub no-cookie-spec : {M : Type 1} → statement M
-no-cookie-spec =
-    tie.close
-    (tie.spec
-    shared-slice-read-result
-    add-result
-    shared-slice-read-result-2
-    add-result-2
-    shared-slice-read-result-3
-    add-result-3
-    shared-slice-read-result-4
-    add-result-4
-    shared-slice-read-result-5
-    add-result-5
-    shared-slice-read-result-6
-    add-result-6
-    shared-slice-read-result-7
-    add-result-7
-    shared-slice-read-result-8
-    returns)
+no-cookie-spec = tie.close (tie.spec zero-half-requires add-zero-half zero-half-requires-2 returns)

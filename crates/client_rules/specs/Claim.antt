@@ -11,10 +11,10 @@ use Rattle.header.specs.Header.{headerOf, interleavedFlag}
 use Rattle.chain.specs.Chain.{soundRefusal}
 use Rattle.association.specs.Plain.{Outstanding, Opened, Place, closed, opened, allTaken}
 use Rattle.order.specs.Order.{TaggedCall, after, answers, answerOf, EveryCall, Distinct, Reordering}
-use Rattle.client.specs.Call.{Call, clearTable, receive, loopVerdict, Typed, names, plainAnswer}
-use Rattle.client.specs.Octets.{tableOctets, stepOctets}
-use Rattle.client.specs.Plain.{closedTable, stepPlain, encodeAll}
-use Rattle.client.specs.Observe.{watched, observedOctet, chunksTaken}
+use Rattle.client_rules.specs.Call.{Call, clearTable, receive, loopVerdict, Typed, names, plainAnswer}
+use Rattle.client_rules.specs.Octets.{tableOctets, stepOctets}
+use Rattle.client_rules.specs.Plain.{closedTable, stepPlain, encodeAll}
+use Rattle.client_rules.specs.Observe.{watched, observedOctet, chunksTaken}
 
 -- the octets of a table once it is cleared
 abbrev pub cleared : List ℕ → List ℕ

@@ -10,8 +10,8 @@ use lib.IntN.{ℤ}
 use lib.ListN.{getD}
 use Rattle.association.specs.Plain.{Outstanding, Opened, Place, closed, opened}
 use Rattle.association.specs.Encode.{countTaken}
-use Rattle.client.specs.Call.{Call, clearTable, openOne, closeOne, poll, sent, receive, loopVerdict, publish, Answer}
-use Rattle.client.specs.Observe.{Seen, done, tookChunk, askedOffset, observedOctet, chunksTaken}
+use Rattle.client_rules.specs.Call.{Call, clearTable, openOne, closeOne, poll, sent, receive, loopVerdict, publish, Answer}
+use Rattle.client_rules.specs.Observe.{Seen, done, tookChunk, askedOffset, observedOctet, chunksTaken}
 
 abbrev pub AskedFor : ℕ → List Seen → Option Outstanding → Type 0
 AskedFor a seen none = Unit {0}

@@ -17,16 +17,16 @@ use Rattle.association.proofs.Reached.{GoodPlace}
 use Rattle.association.proofs.Encoding.{filter-encode}
 use Rattle.order.specs.Order.{TaggedCall, after, EveryCall, Simulates}
 use Rattle.order.proofs.Simulate.{good-after, simulated-answers, simulated-end, simulated-reordered-answers, simulated-reordered-end}
-use Rattle.client.specs.Call.{Call, clearTable, openOne, closeOne, poll, sent, receive, loopVerdict, publish, Typed, Answer, plainAnswer, refusalAnswer, pollAnswer, receiveAnswer, formOf}
-use Rattle.client.specs.Octets.{tableOctets, clearOctets, stepOctets}
-use Rattle.client.specs.Plain.{closedTable, atPlace, stepPlain, encodeAll}
-use Rattle.client.specs.Observe.{Seen, done, watched}
-use Rattle.client.specs.Claim.{cleared, reached, Demand3}
-use Rattle.client.proofs.Tables.{GoodTable, part-all, good-at, good-start, start-zeros}
-use Rattle.client.proofs.Simulate.{good-form, good-response, at-in, at-out, form-simulated}
-use Rattle.client.proofs.Commuting.{independent}
-use Rattle.client.proofs.Observed.{Watching, Watched, Silent, entry, silent-open, silent-close, silent-poll, silent-sent, silent-receive, silent-verdict, silent-publish, kept}
-use Rattle.client.proofs.Watch.{After, watch-open, watch-close, watch-sent, watch-poll, watch-receive}
+use Rattle.client_rules.specs.Call.{Call, clearTable, openOne, closeOne, poll, sent, receive, loopVerdict, publish, Typed, Answer, plainAnswer, refusalAnswer, pollAnswer, receiveAnswer, formOf}
+use Rattle.client_rules.specs.Octets.{tableOctets, clearOctets, stepOctets}
+use Rattle.client_rules.specs.Plain.{closedTable, atPlace, stepPlain, encodeAll}
+use Rattle.client_rules.specs.Observe.{Seen, done, watched}
+use Rattle.client_rules.specs.Claim.{cleared, reached, Demand3}
+use Rattle.client_rules.proofs.Tables.{GoodTable, part-all, good-at, good-start, start-zeros}
+use Rattle.client_rules.proofs.Simulate.{good-form, good-response, at-in, at-out, form-simulated}
+use Rattle.client_rules.proofs.Commuting.{independent}
+use Rattle.client_rules.proofs.Observed.{Watching, Watched, Silent, entry, silent-open, silent-close, silent-poll, silent-sent, silent-receive, silent-verdict, silent-publish, kept}
+use Rattle.client_rules.proofs.Watch.{After, watch-open, watch-close, watch-sent, watch-poll, watch-receive}
 
 -- octets and plain table, call by call
 pub simulates : Simulates stepOctets stepPlain encodeAll Typed GoodTable

@@ -8,7 +8,7 @@ use Rattle.octets.specs.Number.{num}
 use Rattle.exchange.specs.Response.{responseOf}
 use Rattle.exchange.specs.declared.response.Response.{Response}
 use Rattle.order.specs.Order.{TaggedCall}
-use Rattle.client.specs.Call.{Call, clearTable, openOne, closeOne, poll, sent, receive, loopVerdict, publish, Answer}
+use Rattle.client_rules.specs.Call.{Call, clearTable, openOne, closeOne, poll, sent, receive, loopVerdict, publish, Answer}
 
 -- a call with what it answered
 pub record Seen : Type 0 where

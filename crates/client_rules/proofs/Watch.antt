@@ -31,10 +31,10 @@ use Rattle.association.proofs.Flags.{count-first}
 use Rattle.state.proofs.Chunks.{chunk-size}
 use Rattle.association.proofs.Reached.{GoodPlace, GoodOpened, GoodRequest, GoodResponse, by-test, by-request, outstanding-good, onward, taken-length, length-chunk}
 use Rattle.association.proofs.Encoding.{count-of}
-use Rattle.client.specs.Call.{Call, openOne, closeOne, poll, sent, receive, Answer, plainAnswer, refusalAnswer, pollAnswer, receiveAnswer}
-use Rattle.client.specs.Observe.{Seen, tookChunk, askedOffset, octetIn, observedOctet, chunksTaken}
-use Rattle.client.proofs.Pasted.{getD-paste}
-use Rattle.client.proofs.Observed.{Watching, Watched, AskedFor, entry, silent-sent, silent-receive, refused, kept}
+use Rattle.client_rules.specs.Call.{Call, openOne, closeOne, poll, sent, receive, Answer, plainAnswer, refusalAnswer, pollAnswer, receiveAnswer}
+use Rattle.client_rules.specs.Observe.{Seen, tookChunk, askedOffset, octetIn, observedOctet, chunksTaken}
+use Rattle.client_rules.proofs.Pasted.{getD-paste}
+use Rattle.client_rules.proofs.Observed.{Watching, Watched, AskedFor, entry, silent-sent, silent-receive, refused, kept}
 
 itself : (a : ℕ) → eqb a a ≡ true
 itself a = eq-eqb a a refl
