@@ -1,14 +1,14 @@
 // The calls on a client table.
-use crate::answers;
-use crate::answers::Received;
-use crate::answers::Verdict;
-use crate::answers::Written;
+use c_structs::answers;
+use c_structs::answers::Received;
+use c_structs::answers::Verdict;
+use c_structs::answers::Written;
 use header::ClientCookie;
 ghost use mathlib.Core.Path.{_≡_};
 ghost use mathlib.Core.List.{[]};
 ghost use Rattle.client_rules.specs.Call.{clearTable, openOne, closeOne, poll, sent, receive, loopVerdict, publish, plainAnswer};
 ghost use Rattle.client_rules.specs.Octets.{tableOctets, stepOctets};
-ghost use Rattle.ntp5.specs.Numbers.{writtenNumbers, receivedNumbers, verdictNumbers};
+ghost use Rattle.c_structs.specs.Numbers.{writtenNumbers, receivedNumbers, verdictNumbers};
 
 #[no_mangle]
 pub extern "C" fn ntp5_table_octets() -> usize

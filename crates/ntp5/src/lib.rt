@@ -1,7 +1,5 @@
 // The C interface: the core's calls on numbers and byte slices. Nothing is decided here: each call hands its arguments to the core
 // and turns the core's answer into numbers. A slice is a pointer and a length in C; include/ntp5.h declares all of it.
-pub mod answers;
 pub mod client_calls;
-pub mod headers;
 pub mod responder_calls;
 pub mod single_calls;

@@ -1,12 +1,12 @@
 // The responder's calls on a lent store.
-use crate::answers;
-use crate::answers::Written;
+use c_structs::answers;
+use c_structs::answers::Written;
 use header::ServerCookie;
 use responder::Server;
 ghost use mathlib.Core.Path.{_≡_};
 ghost use Rattle.store.specs.Row.{cleared, reporting};
 ghost use Rattle.responder.specs.Answer.{answerOf};
-ghost use Rattle.ntp5.specs.Numbers.{outcomeNumbers};
+ghost use Rattle.c_structs.specs.Numbers.{outcomeNumbers};
 
 #[no_mangle]
 pub extern "C" fn ntp5_store_clear(store: &mut [u8]) -> u8

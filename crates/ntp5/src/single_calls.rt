@@ -1,16 +1,16 @@
 // The calls on one datagram, one filter or the four times of an exchange.
-use crate::answers;
-use crate::answers::Weight;
-use crate::headers;
-use crate::headers::Header;
-use crate::headers::Read;
+use c_structs::answers;
+use c_structs::answers::Weight;
+use c_structs::headers;
+use c_structs::headers::Header;
+use c_structs::headers::Read;
 ghost use mathlib.Core.Path.{_≡_};
 ghost use Rattle.header.specs.Header.{refusal, reading, headerOf, written};
 ghost use Rattle.chain.specs.Chain.{soundRefusal};
 ghost use Rattle.filter.specs.Calls.{addId, unite, weighed};
 ghost use Rattle.measure.specs.Measure.{offset, delay};
-ghost use Rattle.ntp5.specs.Numbers.{weightNumbers};
-ghost use Rattle.ntp5.specs.Headers.{readOf, coreHeader};
+ghost use Rattle.c_structs.specs.Numbers.{weightNumbers};
+ghost use Rattle.c_structs.specs.Headers.{readOf, coreHeader};
 
 #[no_mangle]
 pub extern "C" fn ntp5_header_read(datagram: &[u8], wanted_mode: u8) -> Read

@@ -28,13 +28,18 @@ fn rust() -> Interface {
     Interface::of_rust(include_str!("../../ntp5/src/ffi/mod.rs"))
 }
 
-fn rattle() -> Interface {
-    let folder = top().join("crates/ntp5/src");
+/// The Rattle sources of a crate, one after the other.
+fn sources(name: &str) -> String {
+    let folder = top().join("crates").join(name).join("src");
     let entries = fs::read_dir(&folder);
     let entries = entries.unwrap_or_else(|error| panic!("{}: {error}", folder.display()));
     let files = entries.map(|entry| entry.expect("an entry of the folder").path());
-    let sources = files.filter(|path| path.extension().is_some_and(|end| end == "rt"));
-    let mut interface = Interface::of_rust(&sources.map(|path| text(&path)).collect::<String>());
+    files.filter(|path| path.extension().is_some_and(|end| end == "rt")).map(|path| text(&path)).collect()
+}
+
+/// The structs stand in one crate, the functions in another.
+fn rattle() -> Interface {
+    let mut interface = Interface::of_rust(&(sources("c_structs") + &sources("ntp5")));
     for (function, own, name) in RATTLE_NAMES {
         let parameters = interface.functions.get_mut(function).into_iter().flatten();
         parameters.filter(|(name, _)| name == own).for_each(|pair| pair.0 = name.into());

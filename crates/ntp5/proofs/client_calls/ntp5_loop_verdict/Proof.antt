@@ -1,6 +1,6 @@
 -- `ntp5_loop_verdict` meets its contract: the core's, with the verdict as a number. Assumes nothing.
 use mathlib.Core.Path.{_∙_}
-use Rattle.ntp5.proofs.Told.{verdict-told}
+use Rattle.c_structs.proofs.Told.{verdict-told}
 use borrow.Author.Needs.{needs}
 use Rattle.ntp5.proofs.client_calls.ntp5_loop_verdict.Statement.{statement}
 use Rattle.ntp5.proofs.client_calls.ntp5_loop_verdict.Tie as tie

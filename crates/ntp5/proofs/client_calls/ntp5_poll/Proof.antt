@@ -8,7 +8,7 @@ use mir.Facts.{toZ-ofZ}
 use Rattle.client_rules.specs.Call.{poll}
 use Rattle.client_rules.specs.Octets.{stepOctets}
 use Rattle.client.specs.Answers.{isInterleaved}
-use Rattle.ntp5.proofs.Told.{polled-told}
+use Rattle.c_structs.proofs.Told.{polled-told}
 use borrow.Author.Needs.{needs}
 use Rattle.ntp5.proofs.client_calls.ntp5_poll.Statement.{statement}
 use Rattle.ntp5.proofs.client_calls.ntp5_poll.Tie as tie

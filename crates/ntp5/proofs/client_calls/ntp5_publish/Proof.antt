@@ -1,6 +1,6 @@
 -- `ntp5_publish` meets its contract: the core's, with the answer as numbers. Assumes nothing.
 use mathlib.Core.Path.{_∙_}
-use Rattle.ntp5.proofs.Told.{published-told}
+use Rattle.c_structs.proofs.Told.{published-told}
 use borrow.Author.Needs.{needs}
 use Rattle.ntp5.proofs.client_calls.ntp5_publish.Statement.{statement}
 use Rattle.ntp5.proofs.client_calls.ntp5_publish.Tie as tie

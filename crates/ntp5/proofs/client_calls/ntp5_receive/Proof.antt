@@ -1,6 +1,6 @@
 -- `ntp5_receive` meets its contract: the core's, with the answer as numbers. Assumes nothing.
 use mathlib.Core.Path.{_∙_}
-use Rattle.ntp5.proofs.Told.{received-told}
+use Rattle.c_structs.proofs.Told.{received-told}
 use borrow.Author.Needs.{needs}
 use Rattle.ntp5.proofs.client_calls.ntp5_receive.Statement.{statement}
 use Rattle.ntp5.proofs.client_calls.ntp5_receive.Tie as tie

@@ -1,6 +1,6 @@
 -- `ntp5_filter_weight` meets its contract: the core's, with the answer as numbers. Assumes nothing.
 use mathlib.Core.Path.{_∙_}
-use Rattle.ntp5.proofs.Told.{weighing-told}
+use Rattle.c_structs.proofs.Told.{weighing-told}
 use borrow.Author.Needs.{needs}
 use Rattle.ntp5.proofs.single_calls.ntp5_filter_weight.Statement.{statement}
 use Rattle.ntp5.proofs.single_calls.ntp5_filter_weight.Tie as tie

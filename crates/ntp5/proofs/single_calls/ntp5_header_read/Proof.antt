@@ -1,6 +1,6 @@
 -- `ntp5_header_read` meets its contract: the core's reading in the struct of C. Assumes nothing.
 use mathlib.Core.Path.{ap, _∙_}
-use Rattle.ntp5.specs.Headers.{readOf}
+use Rattle.c_structs.specs.Headers.{readOf}
 use borrow.Author.Needs.{needs}
 use Rattle.ntp5.proofs.single_calls.ntp5_header_read.Statement.{statement}
 use Rattle.ntp5.proofs.single_calls.ntp5_header_read.Tie as tie

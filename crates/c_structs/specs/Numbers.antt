@@ -16,10 +16,10 @@ use Rattle.client.specs.declared.Published.the-variants as published
 use Rattle.responder.specs.Answer.{Outcome}
 use Rattle.responder.specs.declared.Answered.{Answered}
 use Rattle.responder.specs.declared.Answered.the-variants as answered
-use Rattle.ntp5.specs.declared.answers.Written.{Written}
-use Rattle.ntp5.specs.declared.answers.Received.{Received}
-use Rattle.ntp5.specs.declared.answers.Verdict.{Verdict}
-use Rattle.ntp5.specs.declared.answers.Weight.{Weight}
+use Rattle.c_structs.specs.declared.answers.Written.{Written}
+use Rattle.c_structs.specs.declared.answers.Received.{Received}
+use Rattle.c_structs.specs.declared.answers.Verdict.{Verdict}
+use Rattle.c_structs.specs.declared.answers.Weight.{Weight}
 
 -- A STRUCT IN THE CORE'S TERMS: what it does not speak of is 0
 

@@ -1,7 +1,7 @@
 -- `of_polled` meets its contract: each case has its numbers. Assumes nothing.
 use borrow.Author.Needs.{needs}
-use Rattle.ntp5.proofs.answers.of_polled.Statement.{statement}
-use Rattle.ntp5.proofs.answers.of_polled.Tie as tie
+use Rattle.c_structs.proofs.answers.of_polled.Statement.{statement}
+use Rattle.c_structs.proofs.answers.of_polled.Tie as tie
 
 enum-known-polled : tie.Need-enum-known-polled
 enum-known-polled c = search needs

@@ -3,7 +3,7 @@ use header::ClientCookie;
 use header::Reading;
 use header::ServerCookie;
 ghost use mathlib.Core.Path.{_≡_};
-ghost use Rattle.ntp5.specs.Headers.{ofHeader, noHeader, readOf, coreHeader};
+ghost use Rattle.c_structs.specs.Headers.{ofHeader, noHeader, readOf, coreHeader};
 
 #[repr(C)]
 pub struct Header {
@@ -74,7 +74,7 @@ fn no_header() -> Header
     }
 }
 
-pub(crate) fn read_of(reading: Reading) -> Read
+pub fn read_of(reading: Reading) -> Read
     ensures { λ r. ⌜ r ≡ readOf reading ⌝ }
 {
     match reading {
@@ -89,7 +89,7 @@ pub(crate) fn read_of(reading: Reading) -> Read
     }
 }
 
-pub(crate) fn core_header(fields: Header) -> header::Header
+pub fn core_header(fields: Header) -> header::Header
     ensures { λ r. ⌜ r ≡ coreHeader fields ⌝ }
 {
     let server_cookie = ServerCookie(fields.server_cookie);

@@ -6,7 +6,7 @@ use filter::Weighing;
 use responder::Answered;
 ghost use mathlib.Core.Path.{_≡_};
 ghost use Rattle.client.specs.Answers.{isInterleaved};
-ghost use Rattle.ntp5.specs.Numbers.{ofPolled, ofPublished, ofReceived, ofVerdict, ofAnswered, ofWeighing};
+ghost use Rattle.c_structs.specs.Numbers.{ofPolled, ofPublished, ofReceived, ofVerdict, ofAnswered, ofWeighing};
 
 // How many octets were written; 0 in a refusal.
 #[repr(C)]
@@ -39,7 +39,7 @@ pub struct Weight {
 }
 
 // C's bool for the mode that a poll wants.
-pub(crate) fn mode(interleaved: bool) -> Mode
+pub fn mode(interleaved: bool) -> Mode
     ensures { λ r. ⌜ isInterleaved r ≡ interleaved ⌝ }
 {
     if interleaved {
@@ -49,7 +49,7 @@ pub(crate) fn mode(interleaved: bool) -> Mode
     }
 }
 
-pub(crate) fn of_polled(polled: Polled) -> Written
+pub fn of_polled(polled: Polled) -> Written
     ensures { λ r. ⌜ r ≡ ofPolled polled ⌝ }
 {
     match polled {
@@ -58,7 +58,7 @@ pub(crate) fn of_polled(polled: Polled) -> Written
     }
 }
 
-pub(crate) fn of_published(published: Published) -> Written
+pub fn of_published(published: Published) -> Written
     ensures { λ r. ⌜ r ≡ ofPublished published ⌝ }
 {
     match published {
@@ -70,7 +70,7 @@ pub(crate) fn of_published(published: Published) -> Written
     }
 }
 
-pub(crate) fn of_answered(answered: Answered) -> Written
+pub fn of_answered(answered: Answered) -> Written
     ensures { λ r. ⌜ r ≡ ofAnswered answered ⌝ }
 {
     match answered {
@@ -79,7 +79,7 @@ pub(crate) fn of_answered(answered: Answered) -> Written
     }
 }
 
-pub(crate) fn of_received(received: client::Received) -> Received
+pub fn of_received(received: client::Received) -> Received
     ensures { λ r. ⌜ r ≡ ofReceived received ⌝ }
 {
     match received {
@@ -100,7 +100,7 @@ pub(crate) fn of_received(received: client::Received) -> Received
     }
 }
 
-pub(crate) fn of_verdict(verdict: client::Verdict) -> Verdict
+pub fn of_verdict(verdict: client::Verdict) -> Verdict
     ensures { λ r. ⌜ r ≡ ofVerdict verdict ⌝ }
 {
     match verdict {
@@ -123,7 +123,7 @@ pub(crate) fn of_verdict(verdict: client::Verdict) -> Verdict
     }
 }
 
-pub(crate) fn of_weighing(weighing: Weighing) -> Weight
+pub fn of_weighing(weighing: Weighing) -> Weight
     ensures { λ r. ⌜ r ≡ ofWeighing weighing ⌝ }
 {
     match weighing {

@@ -3,8 +3,8 @@ use lib.IntN.{pos}
 use Rattle.header.specs.declared.Header as core
 use Rattle.header.specs.declared.Reading.{Reading}
 use Rattle.header.specs.declared.Reading.the-variants.{Fields, Refused}
-use Rattle.ntp5.specs.declared.headers.Header.{Header}
-use Rattle.ntp5.specs.declared.headers.Read.{Read}
+use Rattle.c_structs.specs.declared.headers.Header.{Header}
+use Rattle.c_structs.specs.declared.headers.Read.{Read}
 
 abbrev pub ofHeader : core.Header → Header
 ofHeader h = record {

@@ -1,7 +1,7 @@
 -- `of_weighing` meets its contract: each case has its numbers. Assumes nothing.
 use borrow.Author.Needs.{needs}
-use Rattle.ntp5.proofs.answers.of_weighing.Statement.{statement}
-use Rattle.ntp5.proofs.answers.of_weighing.Tie as tie
+use Rattle.c_structs.proofs.answers.of_weighing.Statement.{statement}
+use Rattle.c_structs.proofs.answers.of_weighing.Tie as tie
 
 enum-known-weighing : tie.Need-enum-known-weighing
 enum-known-weighing c = search needs

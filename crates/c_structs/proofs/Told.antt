@@ -18,11 +18,11 @@ use Rattle.client.specs.declared.Published.the-variants as published
 use Rattle.responder.specs.Answer.{outcome}
 use Rattle.responder.specs.declared.Answered.{Answered}
 use Rattle.responder.specs.declared.Answered.the-variants as answered
-use Rattle.ntp5.specs.Numbers.{writtenNumbers, receivedNumbers, verdictNumbers, outcomeNumbers, weightNumbers, ofPolled, ofPublished, ofAnswered, ofReceived, ofVerdict, ofWeighing}
-use Rattle.ntp5.specs.declared.answers.Written.{Written}
-use Rattle.ntp5.specs.declared.answers.Received.{Received}
-use Rattle.ntp5.specs.declared.answers.Verdict.{Verdict}
-use Rattle.ntp5.specs.declared.answers.Weight.{Weight}
+use Rattle.c_structs.specs.Numbers.{writtenNumbers, receivedNumbers, verdictNumbers, outcomeNumbers, weightNumbers, ofPolled, ofPublished, ofAnswered, ofReceived, ofVerdict, ofWeighing}
+use Rattle.c_structs.specs.declared.answers.Written.{Written}
+use Rattle.c_structs.specs.declared.answers.Received.{Received}
+use Rattle.c_structs.specs.declared.answers.Verdict.{Verdict}
+use Rattle.c_structs.specs.declared.answers.Weight.{Weight}
 
 polled-same : (p : Polled) (out : List ℕ) → writtenNumbers (ofPolled p) out ≡ polledAnswer p out
 polled-same (polled.Written n) out = refl

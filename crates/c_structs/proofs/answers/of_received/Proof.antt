@@ -2,8 +2,8 @@
 use mir.Syntax.{w64}
 use mir.Facts.{toZ-ofZ}
 use borrow.Author.Needs.{needs}
-use Rattle.ntp5.proofs.answers.of_received.Statement.{statement}
-use Rattle.ntp5.proofs.answers.of_received.Tie as tie
+use Rattle.c_structs.proofs.answers.of_received.Statement.{statement}
+use Rattle.c_structs.proofs.answers.of_received.Tie as tie
 
 enum-known-received : tie.Need-enum-known-received
 enum-known-received c = search needs

@@ -1,7 +1,7 @@
 -- `of_answered` meets its contract: each case has its numbers. Assumes nothing.
 use borrow.Author.Needs.{needs}
-use Rattle.ntp5.proofs.answers.of_answered.Statement.{statement}
-use Rattle.ntp5.proofs.answers.of_answered.Tie as tie
+use Rattle.c_structs.proofs.answers.of_answered.Statement.{statement}
+use Rattle.c_structs.proofs.answers.of_answered.Tie as tie
 
 enum-known-answered : tie.Need-enum-known-answered
 enum-known-answered c = search needs

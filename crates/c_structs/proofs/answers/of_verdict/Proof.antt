@@ -1,7 +1,7 @@
 -- `of_verdict` meets its contract: each case has its numbers. Assumes nothing.
 use borrow.Author.Needs.{needs}
-use Rattle.ntp5.proofs.answers.of_verdict.Statement.{statement}
-use Rattle.ntp5.proofs.answers.of_verdict.Tie as tie
+use Rattle.c_structs.proofs.answers.of_verdict.Statement.{statement}
+use Rattle.c_structs.proofs.answers.of_verdict.Tie as tie
 
 enum-told : tie.Need-enum-told
 enum-told c = search needs

@@ -1,7 +1,7 @@
 -- `read_of` meets its contract: each case has its numbers. Assumes nothing.
 use borrow.Author.Needs.{needs}
-use Rattle.ntp5.proofs.headers.read_of.Statement.{statement}
-use Rattle.ntp5.proofs.headers.read_of.Tie as tie
+use Rattle.c_structs.proofs.headers.read_of.Statement.{statement}
+use Rattle.c_structs.proofs.headers.read_of.Tie as tie
 
 enum-known-reading : tie.Need-enum-known-reading
 enum-known-reading c = search needs

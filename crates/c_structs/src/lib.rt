@@ -1,0 +1,3 @@
+// The structs of the C interface, made of the core's answers and headers.
+pub mod answers;
+pub mod headers;

@@ -1,2 +1,0 @@
--- What the proofs of several exports use. Assumes nothing.
-mod Told
