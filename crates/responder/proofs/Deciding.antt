@@ -16,10 +16,10 @@ use Rattle.chain.specs.Chain.{soundRefusal}
 use Rattle.chain.specs.Content.{chainOctets}
 use Rattle.store.specs.Row.{Record, storeOctets, sizeOf, rowOf, wrongStore}
 use Rattle.store.proofs.Rows.{or-none}
-use Rattle.responder.specs.Answer.{Given, asking, savedTime, answerHeader, sentHeader, sentFields, answerOctets, rowAfter, wrongArguments, wrongFresh, answerRefusal, outcome, answerOf}
-use Rattle.responder.specs.declared.Answered.the-variants.{Written, Refused}
-use Rattle.responder.specs.Claim.{Accepted}
-use Rattle.responder.proofs.Accepting.{answer-accepted}
+use Rattle.responder_rules.specs.Answer.{Given, asking, savedTime, answerHeader, sentHeader, sentFields, answerOctets, rowAfter, wrongArguments, wrongFresh, answerRefusal, outcome, answerOf}
+use Rattle.responder_rules.specs.declared.Answered.the-variants.{Written, Refused}
+use Rattle.responder_rules.specs.Claim.{Accepted}
+use Rattle.responder_rules.proofs.Accepting.{answer-accepted}
 
 -- a refusal, or what comes next
 passed-on : (b : Bool) (n : ℕ) → cond b 6 n ≡ 0 → (b ≡ false) × (n ≡ 0)

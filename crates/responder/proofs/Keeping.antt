@@ -15,7 +15,7 @@ use Rattle.store.proofs.Rows.{time-held}
 use Rattle.store.proofs.Stores.{Stores, store-read, store-written}
 use Rattle.store.proofs.Changed.{place-held, place-time, place-removed, place-joined, place-most as ends}
 use Rattle.store.proofs.Kept.{length-without, sound-without}
-use Rattle.responder.specs.Answer.{wantsInterleaved, savedTime, rowAfter}
+use Rattle.responder_rules.specs.Answer.{wantsInterleaved, savedTime, rowAfter}
 
 module _ (s : List ℕ) (o : Octets s) (right : wrongStore s ≡ false) where
   stored : Stores s (sizeOf s) (rowOf s)

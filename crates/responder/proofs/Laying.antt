@@ -16,7 +16,7 @@ use Rattle.octets.proofs.Parts.{Overwrites, then-part, paste-paste}
 use Rattle.chain.specs.Chain.{padded}
 use Rattle.chain.specs.Content.{content, chainOctets, draftName}
 use Rattle.chain.proofs.Contents.{length-chain-one}
-use Rattle.responder.specs.Answer.{paddingOf}
+use Rattle.responder_rules.specs.Answer.{paddingOf}
 use Rattle.responder.specs.Pass.{Lays}
 
 -- nothing laid

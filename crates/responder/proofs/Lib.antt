@@ -1,14 +1,6 @@
--- The laws of the answer.
-pub mod Room
-pub mod Answers
-pub mod Accepting
+-- The laws of an answer as it is written.
 pub mod Laying
 pub mod Passes
 pub mod Writing
 pub mod Keeping
 pub mod Deciding
-pub mod Leaving
-pub mod Reported
-pub mod Owing
-pub mod Sights
-pub mod Spent

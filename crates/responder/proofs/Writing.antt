@@ -16,7 +16,7 @@ use Rattle.chain.specs.Role.{noneMet}
 use Rattle.chain.proofs.Datagrams.{header-passes}
 use Rattle.chain.proofs.Contents.{chain-append, chain-fours}
 use Rattle.chain.proofs.Roles.{met-none}
-use Rattle.responder.specs.Answer.{answersTo, paddingOf, answerFields}
+use Rattle.responder_rules.specs.Answer.{answersTo, paddingOf, answerFields}
 use Rattle.responder.specs.Pass.{Lays, answersWith}
 use Rattle.responder.proofs.Laying.{length-laid}
 use Rattle.responder.proofs.Passes.{pass-answers}

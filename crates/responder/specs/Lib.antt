@@ -1,5 +1,2 @@
--- The responder of document 01.
-pub mod Answer
-pub mod Claim
+-- How the responder writes an answer.
 pub mod Pass
-pub mod Once

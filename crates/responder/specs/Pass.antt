@@ -8,7 +8,7 @@ use Rattle.chain.specs.Content.{Content}
 use Rattle.chain.specs.Role.{metAfter, roleWith}
 use Rattle.chain.specs.declared.cursor.Field.{Field}
 use Rattle.chain.specs.declared.role.Met.{Met}
-use Rattle.responder.specs.Answer.{answerTo}
+use Rattle.responder_rules.specs.Answer.{answerTo}
 
 -- the octets xs were written over s from `at` on, which gives t, and `next` is the place after them
 pub record Lays (s : List ℕ) (at : ℕ) (xs : List ℕ) (next : ℕ) (t : List ℕ) : Type 0 where

@@ -16,7 +16,7 @@ ghost use Rattle.chain.specs.Content.{content, chainOctets};
 ghost use Rattle.chain.specs.Field.{fieldsFrom};
 ghost use Rattle.chain.specs.Role.{noneMet};
 ghost use Rattle.chain.proofs.Roles.{Suits};
-ghost use Rattle.responder.specs.Answer.{answerTo, paddingOf};
+ghost use Rattle.responder_rules.specs.Answer.{answerTo, paddingOf};
 ghost use Rattle.responder.specs.Pass.{Lays, answersWith};
 
 // Writes a field whose data are n octets of `source` from `from` on, and answers the place after it.

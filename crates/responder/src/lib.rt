@@ -5,30 +5,13 @@ mod saved;
 
 use header::Reading;
 use header::ServerCookie;
+pub use responder_rules::Answered;
+pub use responder_rules::Server;
 ghost use mathlib.Core.Path.{_≡_};
 ghost use mathlib.Core.Bool.{cond, _||_};
 ghost use Rattle.chain.specs.Chain.{soundRefusal};
 ghost use Rattle.store.specs.Row.{wrongStore};
-ghost use Rattle.responder.specs.Answer.{wrongArguments, outcome, answerOf};
-
-// What a server says of its clock in every answer.
-pub struct Server {
-    pub leap: u8,
-    pub stratum: u8,
-    pub poll: i8,
-    pub precision: i8,
-    pub timescale: u8,
-    pub era: u8,
-    pub flags: u16,
-    pub root_delay: u32,
-    pub root_dispersion: u32,
-}
-
-pub enum Answered {
-    // So many octets were written, as many as the request has.
-    Written(u16),
-    Refused(u8),
-}
+ghost use Rattle.responder_rules.specs.Answer.{wrongArguments, outcome, answerOf};
 
 // Refusal 6, then 1 to 5, or 0.
 fn check(

@@ -12,7 +12,7 @@ ghost use lib.ListN.{length};
 ghost use Rattle.header.specs.Header.{octetsOf};
 ghost use Rattle.chain.specs.Chain.{soundRefusal};
 ghost use Rattle.chain.specs.Content.{chainOctets};
-ghost use Rattle.responder.specs.Answer.{wantsInterleaved, answerHeader, answerFields};
+ghost use Rattle.responder_rules.specs.Answer.{wantsInterleaved, answerHeader, answerFields};
 
 // Flag 0x2 of a header: a request that wants an interleaved answer.
 pub(crate) fn wants_interleaved(asked: Header) -> bool

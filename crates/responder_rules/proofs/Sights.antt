@@ -14,12 +14,12 @@ use Rattle.store.proofs.Rows.{SoundRow, time-held}
 use Rattle.store.proofs.Stores.{Stores, stores-row}
 use Rattle.store.proofs.Kept.{without-gone}
 use Rattle.store.proofs.Joins.{held-joined}
-use Rattle.responder.specs.Answer.{Given, Outcome, asking, wantsInterleaved, savedTime, sentHeader, rowAfter, answerRefusal, answerOf}
-use Rattle.responder.specs.Claim.{InRange}
-use Rattle.responder.specs.Once.{askedCookie, interleaved}
-use Rattle.responder.proofs.Answers.{answer-header-more}
-use Rattle.responder.proofs.Accepting.{answer-accepted}
-use Rattle.responder.proofs.Leaving.{range-row, answer-done, answer-refused, answer-stores, fresh-new}
+use Rattle.responder_rules.specs.Answer.{Given, Outcome, asking, wantsInterleaved, savedTime, sentHeader, rowAfter, answerRefusal, answerOf}
+use Rattle.responder_rules.specs.Claim.{InRange}
+use Rattle.responder_rules.specs.Once.{askedCookie, interleaved}
+use Rattle.responder_rules.proofs.Answers.{answer-header-more}
+use Rattle.responder_rules.proofs.Accepting.{answer-accepted}
+use Rattle.responder_rules.proofs.Leaving.{range-row, answer-done, answer-refused, answer-stores, fresh-new}
 
 -- flag 0x2 is as it was put
 flag-put : (basic : Bool) (flags : ℕ) → interleavedFlag (flags - flags / 2 % 2 * 2 + cond basic 0 2) ≡ not basic

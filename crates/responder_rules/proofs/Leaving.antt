@@ -12,10 +12,10 @@ use Rattle.store.proofs.Rows.{SoundRow, or-none}
 use Rattle.store.proofs.Stores.{Stores, store-written, stores-row, stores-size}
 use Rattle.store.proofs.Kept.{length-without, sound-without, without-absent}
 use Rattle.store.proofs.Joins.{length-joined, sound-joined}
-use Rattle.responder.specs.Answer.{Given, asking, wantsInterleaved, savedTime, wrongFresh, answerOctets, rowAfter, answerRefusal, answerOf}
-use Rattle.responder.specs.Claim.{InRange}
-use Rattle.responder.proofs.Answers.{either}
-use Rattle.responder.proofs.Accepting.{answer-fresh}
+use Rattle.responder_rules.specs.Answer.{Given, asking, wantsInterleaved, savedTime, wrongFresh, answerOctets, rowAfter, answerRefusal, answerOf}
+use Rattle.responder_rules.specs.Claim.{InRange}
+use Rattle.responder_rules.proofs.Answers.{either}
+use Rattle.responder_rules.proofs.Accepting.{answer-fresh}
 
 -- the times of a sound row are of 64 bits
 pub sound-times : (row : List Record) → SoundRow row → (cookie : ℕ) → timeOf cookie row < 2 ^ 64

@@ -14,9 +14,9 @@ use Rattle.chain.specs.declared.cursor.Field.{Field}
 use Rattle.chain.specs.declared.role.Role.{Role}
 use Rattle.chain.specs.declared.role.Role.the-variants.{FilterRequest, Information, DraftName, Unknown}
 use Rattle.store.specs.Row.{Record, held, timeOf, without, joined, storeOctets, sizeOf, rowOf, wrongStore}
-use Rattle.responder.specs.declared.Server.{Server}
-use Rattle.responder.specs.declared.Answered.{Answered}
-use Rattle.responder.specs.declared.Answered.the-variants.{Written, Refused}
+use Rattle.responder_rules.specs.declared.Server.{Server}
+use Rattle.responder_rules.specs.declared.Answered.{Answered}
+use Rattle.responder_rules.specs.declared.Answered.the-variants.{Written, Refused}
 
 -- what an answer takes beside the store and the output
 pub record Given : Type 0 where

@@ -11,9 +11,9 @@ use Rattle.octets.specs.Number.{Octets, num}
 use Rattle.chain.specs.Chain.{soundRefusal}
 use Rattle.store.specs.Row.{rowOf, storeOctets, sizeOf, wrongStore}
 use Rattle.store.proofs.Rows.{or-none}
-use Rattle.responder.specs.Answer.{Given, Outcome, wrongArguments, wrongFresh, answerRefusal, answerOctets, answerOf, rowAfter, asking}
-use Rattle.responder.specs.Claim.{Accepted, InRange, AnswerClaim}
-use Rattle.responder.proofs.Answers.{answer-claim}
+use Rattle.responder_rules.specs.Answer.{Given, Outcome, wrongArguments, wrongFresh, answerRefusal, answerOctets, answerOf, rowAfter, asking}
+use Rattle.responder_rules.specs.Claim.{Accepted, InRange, AnswerClaim}
+use Rattle.responder_rules.proofs.Answers.{answer-claim}
 
 -- a refusal that is not given
 pub not-given : (b : Bool) (n m : ℕ) → cond b (suc n) m ≡ 0 → (b ≡ false) × (m ≡ 0)
@@ -77,8 +77,6 @@ answer-number g store out = go (answerRefusal g store out) _ refl _ refl
     go : (n : ℕ) (w : Outcome) → w .refusal ≡ 0 → (v : Outcome) → v .refusal ≡ n → cond {A = Outcome} (eqb n 0) w v .refusal ≡ n
     go zero w e v f = e
     go (suc n) w e v f = rw (ne-eqb (suc n) 0 (λ e. omega arith)) f
-
--- the times of the records that a store has
 
 -- the claim, of each answer that is not refused
 pub answer-given : (g : Given) (store out : List ℕ) → answerRefusal g store out ≡ 0 → InRange g (rowOf store) → AnswerClaim g (rowOf store)

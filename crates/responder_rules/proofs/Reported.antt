@@ -10,7 +10,7 @@ use Rattle.store.specs.Row.{Record, held, timeOf, reported, storeOctets, sizeOf
 use Rattle.store.proofs.Rows.{or-none}
 use Rattle.store.proofs.Stores.{Stores, right-size, store-written, stores-row, stores-size}
 use Rattle.store.proofs.Kept.{length-reported, sound-reported}
-use Rattle.responder.proofs.Accepting.{not-given}
+use Rattle.responder_rules.proofs.Accepting.{not-given}
 
 -- ---- a clear
 

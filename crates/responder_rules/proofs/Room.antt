@@ -18,7 +18,7 @@ use Rattle.chain.specs.declared.role.Role.the-variants.{FilterRequest, Informat
 use Rattle.chain.proofs.Steps.{lengthAt, View, ended, cut, few, past, unclean, sound, view}
 use Rattle.chain.proofs.Roles.{Suits, suits}
 use Rattle.chain.proofs.Contents.{AllFit, fit-append, length-chain-one, length-chain-append}
-use Rattle.responder.specs.Answer.{answerTo, answersTo, paddingOf}
+use Rattle.responder_rules.specs.Answer.{answerTo, answersTo, paddingOf}
 
 empty-chain : length (chainOctets []) ≡ 0
 unfolding chainOctets

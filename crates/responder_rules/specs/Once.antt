@@ -7,8 +7,8 @@ use lib.Dec.{eqb}
 use lib.ListN.{length}
 use Rattle.header.specs.Header.{headerOf, interleavedFlag}
 use Rattle.store.specs.Row.{Record, held, timeOf, without, sizeOf, rowOf, wrongSize, wrongStore, cleared, reporting}
-use Rattle.responder.specs.Answer.{Given, asking, Outcome, answerOf}
-use Rattle.responder.specs.Claim.{InRange}
+use Rattle.responder_rules.specs.Answer.{Given, asking, Outcome, answerOf}
+use Rattle.responder_rules.specs.Claim.{InRange}
 
 -- ---- calls
 

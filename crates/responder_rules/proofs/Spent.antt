@@ -9,13 +9,13 @@ use Rattle.store.specs.Row.{Record, held, timeOf, reported, without, joined, wr
 use Rattle.store.proofs.Rows.{or-none, time-held}
 use Rattle.store.proofs.Stores.{Stores, stores-right, stores-row, stores-size}
 use Rattle.store.proofs.Kept.{sound-without, without-gone, without-absent}
-use Rattle.responder.specs.Answer.{Given, asking, wantsInterleaved, savedTime, rowAfter, answerRefusal, answerOf}
-use Rattle.responder.specs.Claim.{InRange}
-use Rattle.responder.specs.Once.{Call, clear, report, answer, Typed, AllTyped, step, reached, askedCookie, Event, reports, sends, eventOf, events, balanced, Right, Once}
-use Rattle.responder.proofs.Leaving.{answer-done, answer-refused, answer-stores, fresh-new}
-use Rattle.responder.proofs.Reported.{clear-done, clear-stores, report-refused, report-held, report-done, report-stores}
-use Rattle.responder.proofs.Owing.{Owes, owes-none, owes-joined, owes-without, owes-reported}
-use Rattle.responder.proofs.Sights.{is-saved, refused-sight, header-done, done-sight, sight-gone}
+use Rattle.responder_rules.specs.Answer.{Given, asking, wantsInterleaved, savedTime, rowAfter, answerRefusal, answerOf}
+use Rattle.responder_rules.specs.Claim.{InRange}
+use Rattle.responder_rules.specs.Once.{Call, clear, report, answer, Typed, AllTyped, step, reached, askedCookie, Event, reports, sends, eventOf, events, balanced, Right, Once}
+use Rattle.responder_rules.proofs.Leaving.{answer-done, answer-refused, answer-stores, fresh-new}
+use Rattle.responder_rules.proofs.Reported.{clear-done, clear-stores, report-refused, report-held, report-done, report-stores}
+use Rattle.responder_rules.proofs.Owing.{Owes, owes-none, owes-joined, owes-without, owes-reported}
+use Rattle.responder_rules.proofs.Sights.{is-saved, refused-sight, header-done, done-sight, sight-gone}
 
 -- what a call leads to: the row that its store then holds and what is owed then, as the observer counts it
 record Next (c : Call) (s : List ℕ) (n : ℕ) (owed : List Record) : Type 0 where
