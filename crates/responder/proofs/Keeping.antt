@@ -9,7 +9,7 @@ use lib.Dec.{eqb, ltb}
 use lib.ListN.{length}
 use Rattle.octets.specs.Number.{Octets, getAt}
 use Rattle.header.specs.declared.Header.{Header}
-use Rattle.store.specs.Row.{Record, held, timeOf, without, joined, storeOctets, sizeOf, rowOf, wrongStore}
+use Rattle.store.specs.Row.{Record, held, timeOf, without, storeOctets, sizeOf, rowOf, wrongStore}
 use Rattle.store.specs.Place.{placeOf, removed, joinedOctets}
 use Rattle.store.proofs.Rows.{time-held}
 use Rattle.store.proofs.Stores.{Stores, store-read, store-written}

@@ -8,7 +8,7 @@ use native.Mathlib.Omega.{arith}
 use borrow.Author.Tests.{le-leb, leb-true, leb-false, ne-eqb}
 use lib.Dec.{leb}
 use lib.ListN.{length, take, drop, replicate, length-append, length-drop, length-replicate, take-append-drop}
-use lib.Seq.{paste, length-paste, take-all, length-take-le, drop-length}
+use lib.Seq.{length-paste, take-all, length-take-le, drop-length}
 use Rattle.octets.specs.Number.{octets, putAt}
 use Rattle.octets.specs.Part.{overwrite, copyAt, zeroAt}
 use Rattle.octets.proofs.Numbers.{length-octets}

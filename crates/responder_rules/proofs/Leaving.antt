@@ -14,6 +14,7 @@ use Rattle.store.proofs.Kept.{length-without, sound-without, without-absent}
 use Rattle.store.proofs.Joins.{length-joined, sound-joined}
 use Rattle.responder_rules.specs.Answer.{Given, asking, wantsInterleaved, savedTime, wrongFresh, answerOctets, rowAfter, answerRefusal, answerOf}
 use Rattle.responder_rules.specs.Claim.{InRange}
+use Rattle.responder_rules.specs.Once.{askedCookie}
 use Rattle.responder_rules.proofs.Answers.{either}
 use Rattle.responder_rules.proofs.Accepting.{answer-fresh}
 
@@ -74,6 +75,29 @@ module _ (basic : Bool) (c : ℕ) (row : List Record) (g : SoundRow row) where
 right-fresh : (wants : Bool) (fresh : ℕ) (row : List Record) → wants && (eqb fresh 0 || held fresh row) ≡ false → wants ≡ true
     → (fresh ≡ 0 → ⊥) × (held fresh row ≡ false)
 right-fresh wants fresh row h w = let p = or-none (eqb fresh 0) (held fresh row) (rw w at h) in (eqb-false fresh 0 (p .0), p .1)
+
+-- a saved time stands in the row, and the request wants it
+pub record Saved (g : Given) (row : List Record) : Type 0 where
+  pub wanted : wantsInterleaved (asking g) ≡ true
+  pub its-time : savedTime (asking g) row ≡ timeOf (askedCookie g) row
+  pub some : timeOf (askedCookie g) row ≡ 0 → ⊥
+  pub row-after : (n : ℕ) → rowAfter (asking g) (g .fresh) n row ≡ joined n (g .fresh) (without (askedCookie g) row)
+
+-- there is one where the saved time isn't 0
+pub is-saved : (g : Given) (row : List Record) → eqb (savedTime (asking g) row) 0 ≡ false → Saved g row
+is-saved g row e =
+    let w = wants (wantsInterleaved (asking g)) (timeOf (askedCookie g) row) (eqb-false _ 0 e) in
+    let t : savedTime (asking g) row ≡ timeOf (askedCookie g) row = rw w in
+    record {
+      wanted = w;
+      its-time = t;
+      some = λ z. eqb-false _ 0 e (t ∙ z);
+      row-after = λ n. rw (w, ← t, e);
+    }
+  where
+    wants : (b : Bool) (t : ℕ) → (cond b t 0 ≡ 0 → ⊥) → b ≡ true
+    wants true t h = refl
+    wants false t h = absurd (h refl)
 
 module _ {s : List ℕ} {n : ℕ} {row : List Record} (w : Stores s n row) (g : Given) (out : List ℕ) where
   -- what the fresh cookie joins, and the row after the answer

@@ -9,45 +9,22 @@ use native.Mathlib.Omega.{arith}
 use borrow.Author.Tests.{eq-eqb, ne-eqb, eqb-true, eqb-false}
 use lib.Dec.{eqb}
 use Rattle.header.specs.Header.{headerOf, interleavedFlag}
-use Rattle.store.specs.Row.{Record, held, timeOf, without, joined, rowOf}
+use Rattle.store.specs.Row.{Record, held, without, joined, rowOf}
 use Rattle.store.proofs.Rows.{SoundRow, time-held}
 use Rattle.store.proofs.Stores.{Stores, stores-row}
 use Rattle.store.proofs.Kept.{without-gone}
 use Rattle.store.proofs.Joins.{held-joined}
-use Rattle.responder_rules.specs.Answer.{Given, Outcome, asking, wantsInterleaved, savedTime, sentHeader, rowAfter, answerRefusal, answerOf}
+use Rattle.responder_rules.specs.Answer.{Given, Outcome, asking, savedTime, sentHeader, answerRefusal, answerOf}
 use Rattle.responder_rules.specs.Claim.{InRange}
 use Rattle.responder_rules.specs.Once.{askedCookie, interleaved}
 use Rattle.responder_rules.proofs.Answers.{answer-header-more}
 use Rattle.responder_rules.proofs.Accepting.{answer-accepted}
-use Rattle.responder_rules.proofs.Leaving.{range-row, answer-done, answer-refused, answer-stores, fresh-new}
+use Rattle.responder_rules.proofs.Leaving.{range-row, Saved, is-saved, answer-done, answer-refused, answer-stores, fresh-new}
 
 -- flag 0x2 is as it was put
 flag-put : (basic : Bool) (flags : ℕ) → interleavedFlag (flags - flags / 2 % 2 * 2 + cond basic 0 2) ≡ not basic
 flag-put true flags = ne-eqb ((flags - flags / 2 % 2 * 2 + 0) / 2 % 2) 1 (λ e. omega arith)
 flag-put false flags = eq-eqb ((flags - flags / 2 % 2 * 2 + 2) / 2 % 2) 1 (omega arith)
-
--- a saved time stands in the row, and the request wants it
-pub record Saved (g : Given) (row : List Record) : Type 0 where
-  pub wanted : wantsInterleaved (asking g) ≡ true
-  pub its-time : savedTime (asking g) row ≡ timeOf (askedCookie g) row
-  pub some : timeOf (askedCookie g) row ≡ 0 → ⊥
-  pub row-after : (n : ℕ) → rowAfter (asking g) (g .fresh) n row ≡ joined n (g .fresh) (without (askedCookie g) row)
-
--- there is one where the saved time isn't 0
-pub is-saved : (g : Given) (row : List Record) → eqb (savedTime (asking g) row) 0 ≡ false → Saved g row
-is-saved g row e =
-    let w = wants (wantsInterleaved (asking g)) (timeOf (askedCookie g) row) (eqb-false _ 0 e) in
-    let t : savedTime (asking g) row ≡ timeOf (askedCookie g) row = rw w in
-    record {
-      wanted = w;
-      its-time = t;
-      some = λ z. eqb-false _ 0 e (t ∙ z);
-      row-after = λ n. rw (w, ← t, e);
-    }
-  where
-    wants : (b : Bool) (t : ℕ) → (cond b t 0 ≡ 0 → ⊥) → b ≡ true
-    wants true t h = refl
-    wants false t h = absurd (h refl)
 
 -- the cookie whose record leaves is not in the row that a fresh one has joined
 gone-joined : (n fresh c : ℕ) (row : List Record) → SoundRow row → held c row ≡ true → held fresh row ≡ false → held c (joined n fresh (without c row)) ≡ false
