@@ -86,7 +86,7 @@ pub fn answer(
         return Answered::Refused(11);
     }
     let time = saved::time(store, asked);
-    let header = reply::header_of(server, asked, receive, estimate, fresh, time);
+    let header = answer_header::header_of(server, asked, receive, estimate, fresh, time);
     reply::write(header, request, filter, information, &mut out[0..n]);
     saved::keep(store, asked, fresh, time);
     Answered::Written(n as u16)

@@ -1,5 +1,5 @@
 // What an answer has to do with the saved timestamps.
-use crate::reply::wants_interleaved;
+use answer_header::wants_interleaved;
 use header::Header;
 use header::ServerCookie;
 use octets::number;

@@ -2,8 +2,8 @@
 use mir.Syntax.{w8}
 use mir.Facts.{toZ-ofZ}
 use borrow.Author.Needs.{needs}
-use Rattle.responder.proofs.reply.header_of.Statement.{statement}
-use Rattle.responder.proofs.reply.header_of.Tie as tie
+use Rattle.answer_header.proofs.header_of.Statement.{statement}
+use Rattle.answer_header.proofs.header_of.Tie as tie
 
 flags-of-requires : tie.Need-flags-of-requires
 flags-of-requires c κs = search needs

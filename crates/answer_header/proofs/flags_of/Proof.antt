@@ -3,8 +3,8 @@ use mathlib.Core.Path.{sym}
 use native.Mathlib.Nat.{add-zero}
 use borrow.Author.Tests.{eq-eqb, ne-eqb}
 use borrow.Author.Needs.{needs}
-use Rattle.responder.proofs.reply.flags_of.Statement.{statement}
-use Rattle.responder.proofs.reply.flags_of.Tie as tie
+use Rattle.answer_header.proofs.flags_of.Statement.{statement}
+use Rattle.answer_header.proofs.flags_of.Tie as tie
 
 mul-kept : tie.Need-mul-kept
 mul-kept c = search needs
