@@ -1,6 +1,4 @@
--- The laws of an answer as it is written.
-pub mod Laying
-pub mod Passes
+-- The laws of the answer as the code makes it.
 pub mod Writing
 pub mod Keeping
 pub mod Deciding

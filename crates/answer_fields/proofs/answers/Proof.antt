@@ -6,10 +6,10 @@ use native.Mathlib.Omega.{arith}
 use lib.ListN.{length}
 use Rattle.chain.proofs.Steps.{reached, stopped}
 use Rattle.chain.proofs.Roles.{Suits, suits-with}
-use Rattle.responder.proofs.Passes.{Passing, pass-begins, pass-stops, pass-ends, pass-room, pass-goes-on, pass-skips}
+use Rattle.answer_fields.proofs.Passes.{Passing, pass-begins, pass-stops, pass-ends, pass-room, pass-goes-on, pass-skips}
 use borrow.Author.Needs.{needs}
-use Rattle.responder.proofs.fields.answers.Statement.{statement}
-use Rattle.responder.proofs.fields.answers.Tie as tie
+use Rattle.answer_fields.proofs.answers.Statement.{statement}
+use Rattle.answer_fields.proofs.answers.Tie as tie
 
 abbrev Inv-loop : tie.InvT-loop
 Inv-loop request filter information out₀ cursor₀ met₀ at₀ out cursor met at = Passing request filter information out₀ (cursor .at) met at out

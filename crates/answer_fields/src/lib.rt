@@ -1,4 +1,4 @@
-// The answer's fields: one pass over those of the request.
+// The fields of an answer: one pass over those of the request, then the padding.
 use chain::DRAFT_NAME;
 use chain::cursor::Cursor;
 use chain::cursor::Field;
@@ -17,7 +17,8 @@ ghost use Rattle.chain.specs.Field.{fieldsFrom};
 ghost use Rattle.chain.specs.Role.{noneMet};
 ghost use Rattle.chain.proofs.Roles.{Suits};
 ghost use Rattle.responder_rules.specs.Answer.{answerTo, paddingOf};
-ghost use Rattle.responder.specs.Pass.{Lays, answersWith};
+ghost use Rattle.answer_fields.specs.Fields.{fieldsWritten};
+ghost use Rattle.answer_fields.specs.Pass.{Lays, answersWith};
 
 // Writes a field whose data are n octets of `source` from `from` on, and answers the place after it.
 fn put_field(kind: u16, source: &[u8], from: usize, n: usize, out: &mut [u8], at: usize) -> usize
@@ -63,7 +64,7 @@ fn answer_to(
 
 // Writes the answers to the request's fields after the header, and answers the place after them. A loop, so that many fields take no more
 // stack than one.
-pub(crate) fn answers(request: &[u8], filter: &[u8], information: &[u8], out: &mut [u8]) -> usize
+fn answers(request: &[u8], filter: &[u8], information: &[u8], out: &mut [u8]) -> usize
     requires { ⌜ (length (now filter) ≡ 512) × (length (now information) ≡ 4) × (length (now request) ≤ length (now out)) × (48 ≤ length (now request)) ⌝ }
     ensures { λ r. ⌜ Lays (now (out .entry)) 48
         (chainOctets (answersWith (now (request .entry)) (now (filter .entry)) (now (information .entry)) noneMet (fieldsFrom (now (request .entry)) 48)))
@@ -87,7 +88,7 @@ pub(crate) fn answers(request: &[u8], filter: &[u8], information: &[u8], out: &m
 }
 
 // Fills what is left with one padding field.
-pub(crate) fn pad(out: &mut [u8], at: usize)
+fn pad(out: &mut [u8], at: usize)
     requires { ⌜ (at ≤ length (now out)) × (length (now out) ≤ 1280) × ((length (now out) - at) % 4 ≡ 0) ⌝ }
     ensures { λ _. ⌜ now (out .exit) ≡ take at (now (out .entry)) ++ chainOctets (paddingOf (length (now (out .entry)) - at)) ⌝ }
 {
@@ -97,4 +98,20 @@ pub(crate) fn pad(out: &mut [u8], at: usize)
         number::put16(out, at + 2, (n - at) as u16);
         part::zero(out, at + 4, n - at - 4);
     }
+}
+
+// Writes what answers a request's fields after the 48 octets of the header, up to the request's length. Sizes that are wrong leave `out`.
+pub fn write(request: &[u8], filter: &[u8], information: &[u8], out: &mut [u8])
+    ensures { λ _. ⌜ now (out .exit) ≡ fieldsWritten (now (request .entry)) (now (filter .entry)) (now (information .entry)) (now (out .entry)) ⌝ }
+{
+    let n = request.len();
+    if (filter.len() != 512)
+        | (information.len() != 4)
+        | ((n < 48) | (1280 < n) | (n % 4 != 0))
+        | (out.len() != n)
+    {
+        return;
+    }
+    let at = answers(request, filter, information, out);
+    pad(out, at);
 }

@@ -1,8 +1,8 @@
 -- `pad` meets its contract: one field, or nothing where nothing is left. Assumes nothing.
-use Rattle.responder.proofs.Laying.{padding-none, padding-laid}
+use Rattle.answer_fields.proofs.Laying.{padding-none, padding-laid}
 use borrow.Author.Needs.{needs}
-use Rattle.responder.proofs.fields.pad.Statement.{statement}
-use Rattle.responder.proofs.fields.pad.Tie as tie
+use Rattle.answer_fields.proofs.pad.Statement.{statement}
+use Rattle.answer_fields.proofs.pad.Tie as tie
 
 put16-requires : tie.Need-put16-requires
 put16-requires c κs = search needs

@@ -3,10 +3,10 @@ use mathlib.Core.Path.{subst}
 use native.Mathlib.Omega.{arith}
 use Rattle.chain.specs.Content.{chainOctets, draftName}
 use Rattle.chain.proofs.Roles.{Suits}
-use Rattle.responder.proofs.Laying.{lays-none, information-whole, name-cut}
+use Rattle.answer_fields.proofs.Laying.{lays-none, information-whole, name-cut}
 use borrow.Author.Needs.{needs}
-use Rattle.responder.proofs.fields.answer_to.Statement.{statement}
-use Rattle.responder.proofs.fields.answer_to.Tie as tie
+use Rattle.answer_fields.proofs.answer_to.Statement.{statement}
+use Rattle.answer_fields.proofs.answer_to.Tie as tie
 
 enum-known-role : tie.Need-enum-known-role
 enum-known-role c = search needs

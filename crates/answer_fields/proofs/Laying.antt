@@ -17,7 +17,7 @@ use Rattle.chain.specs.Chain.{padded}
 use Rattle.chain.specs.Content.{content, chainOctets, draftName}
 use Rattle.chain.proofs.Contents.{length-chain-one}
 use Rattle.responder_rules.specs.Answer.{paddingOf}
-use Rattle.responder.specs.Pass.{Lays}
+use Rattle.answer_fields.specs.Pass.{Lays}
 
 -- nothing laid
 pub lays-none : (s : List ℕ) (at : ℕ) → Lays s at [] at s

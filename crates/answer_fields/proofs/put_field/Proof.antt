@@ -1,8 +1,8 @@
 -- `put_field` meets its contract: its four parts are laid one after the other. Assumes nothing.
-use Rattle.responder.proofs.Laying.{field-laid}
+use Rattle.answer_fields.proofs.Laying.{field-laid}
 use borrow.Author.Needs.{needs}
-use Rattle.responder.proofs.fields.put_field.Statement.{statement}
-use Rattle.responder.proofs.fields.put_field.Tie as tie
+use Rattle.answer_fields.proofs.put_field.Statement.{statement}
+use Rattle.answer_fields.proofs.put_field.Tie as tie
 
 add-padded : tie.Need-add-padded
 add-padded c = search needs

@@ -20,8 +20,8 @@ use Rattle.chain.proofs.Contents.{chain-append}
 use Rattle.chain.proofs.Fields.{no-field, next-field}
 use Rattle.chain.proofs.Roles.{Suits, suits-with, metOf, met-next, role-met, unanswered-role, unanswered-met}
 use Rattle.responder_rules.specs.Answer.{answerTo, answersTo}
-use Rattle.responder.specs.Pass.{Lays, answersWith}
-use Rattle.responder.proofs.Laying.{lays-none, lays-next, length-laid}
+use Rattle.answer_fields.specs.Pass.{Lays, answersWith}
+use Rattle.answer_fields.proofs.Laying.{lays-none, lays-next, length-laid}
 use Rattle.responder_rules.proofs.Room.{answer-size}
 
 module _ (s filter information : List ℕ) where

@@ -1,2 +1,0 @@
--- How the responder writes an answer.
-pub mod Pass
