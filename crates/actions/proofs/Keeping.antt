@@ -11,9 +11,9 @@ use Rattle.octets.specs.Number.{putAt}
 use Rattle.octets.specs.Part.{copyAt}
 use Rattle.text.specs.Line.{numberAt, bitsAt, octetsAt}
 use Rattle.store.specs.Row.{wrongSize, storeOctets, sizeOf, cleared, reporting}
-use Rattle.responder.specs.Answer.{Outcome, outcome, answerOf}
-use Rattle.responder.specs.declared.Answered.{Answered}
-use Rattle.responder.specs.declared.Answered.the-variants.{Written, Refused}
+use Rattle.responder_rules.specs.Answer.{Outcome, outcome, answerOf}
+use Rattle.responder_rules.specs.declared.Answered.{Answered}
+use Rattle.responder_rules.specs.declared.Answered.the-variants.{Written, Refused}
 use Rattle.actions.specs.Given.{givenFrom}
 use Rattle.actions.specs.Kept.{lengthOf, storeOf, storeReported, storeAnswered, storeAfter, keptCleared, keptLent, keptAfter}
 

@@ -2,8 +2,8 @@
 use mathlib.Core.List.{List}
 use Prim.Native.Nat.{ℕ}
 use Rattle.text.specs.Line.{numberAt, bitsAt, signedAt, octetsAt}
-use Rattle.responder.specs.Answer.{Given}
-use Rattle.responder.specs.declared.Server.{Server}
+use Rattle.responder_rules.specs.Answer.{Given}
+use Rattle.responder_rules.specs.declared.Server.{Server}
 
 -- the server's values, from the fifth word on
 abbrev pub serverOf : List ℕ → Server

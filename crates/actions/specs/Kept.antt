@@ -8,7 +8,7 @@ use Rattle.octets.specs.Number.{getAt, putAt}
 use Rattle.octets.specs.Part.{copyAt}
 use Rattle.text.specs.Line.{numberAt, bitsAt, octetsAt}
 use Rattle.store.specs.Row.{cleared, reporting}
-use Rattle.responder.specs.Answer.{answerOf}
+use Rattle.responder_rules.specs.Answer.{answerOf}
 use Rattle.actions.specs.Given.{givenOf}
 
 -- the remainder only says that the store has its place

@@ -12,7 +12,7 @@ use text::octet_word::octets_of;
 use text::piece;
 ghost use mathlib.Core.Path.{_≡_};
 ghost use Rattle.text.specs.Line.{octetsAt};
-ghost use Rattle.responder.specs.Answer.{outcome, answerOf};
+ghost use Rattle.responder_rules.specs.Answer.{outcome, answerOf};
 ghost use Rattle.actions.specs.Given.{serverOf, givenFrom};
 ghost use Rattle.actions.specs.Kept.{storeAnswered};
 

@@ -15,9 +15,9 @@ use Rattle.client.specs.declared.Verdict as core-verdict
 use Rattle.client.specs.declared.Verdict.the-variants as verdict
 use Rattle.client.specs.declared.Published.{Published}
 use Rattle.client.specs.declared.Published.the-variants as published
-use Rattle.responder.specs.Answer.{outcome}
-use Rattle.responder.specs.declared.Answered.{Answered}
-use Rattle.responder.specs.declared.Answered.the-variants as answered
+use Rattle.responder_rules.specs.Answer.{outcome}
+use Rattle.responder_rules.specs.declared.Answered.{Answered}
+use Rattle.responder_rules.specs.declared.Answered.the-variants as answered
 use Rattle.c_structs.specs.Numbers.{writtenNumbers, receivedNumbers, verdictNumbers, outcomeNumbers, weightNumbers, ofPolled, ofPublished, ofAnswered, ofReceived, ofVerdict, ofWeighing}
 use Rattle.c_structs.specs.declared.answers.Written.{Written}
 use Rattle.c_structs.specs.declared.answers.Received.{Received}

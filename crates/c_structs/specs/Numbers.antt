@@ -13,9 +13,9 @@ use Rattle.client.specs.declared.Verdict.the-variants as verdict
 use Rattle.client.specs.declared.Verdict as core-verdict
 use Rattle.client.specs.declared.Published.{Published}
 use Rattle.client.specs.declared.Published.the-variants as published
-use Rattle.responder.specs.Answer.{Outcome}
-use Rattle.responder.specs.declared.Answered.{Answered}
-use Rattle.responder.specs.declared.Answered.the-variants as answered
+use Rattle.responder_rules.specs.Answer.{Outcome}
+use Rattle.responder_rules.specs.declared.Answered.{Answered}
+use Rattle.responder_rules.specs.declared.Answered.the-variants as answered
 use Rattle.c_structs.specs.declared.answers.Written.{Written}
 use Rattle.c_structs.specs.declared.answers.Received.{Received}
 use Rattle.c_structs.specs.declared.answers.Verdict.{Verdict}

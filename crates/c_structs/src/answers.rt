@@ -3,7 +3,7 @@ use client::Mode;
 use client::Polled;
 use client::Published;
 use filter::Weighing;
-use responder::Answered;
+use responder_rules::Answered;
 ghost use mathlib.Core.Path.{_≡_};
 ghost use Rattle.client.specs.Answers.{isInterleaved};
 ghost use Rattle.c_structs.specs.Numbers.{ofPolled, ofPublished, ofReceived, ofVerdict, ofAnswered, ofWeighing};

@@ -5,7 +5,7 @@ use header::ServerCookie;
 use responder::Server;
 ghost use mathlib.Core.Path.{_≡_};
 ghost use Rattle.store.specs.Row.{cleared, reporting};
-ghost use Rattle.responder.specs.Answer.{answerOf};
+ghost use Rattle.responder_rules.specs.Answer.{answerOf};
 ghost use Rattle.c_structs.specs.Numbers.{outcomeNumbers};
 
 #[no_mangle]

@@ -16,15 +16,10 @@ use Rattle.chain.specs.Chain.{soundRefusal}
 use Rattle.chain.specs.Content.{chainOctets}
 use Rattle.store.specs.Row.{Record, storeOctets, sizeOf, rowOf, wrongStore}
 use Rattle.store.proofs.Rows.{or-none}
-use Rattle.responder.specs.Answer.{Given, asking, savedTime, answerHeader, sentHeader, sentFields, answerOctets, rowAfter, wrongArguments, wrongFresh, answerRefusal, outcome, answerOf}
-use Rattle.responder.specs.declared.Answered.the-variants.{Written, Refused}
-use Rattle.responder.specs.Claim.{Accepted}
-use Rattle.responder.proofs.Accepting.{answer-accepted}
-
--- a refusal, or what comes next
-passed-on : (b : Bool) (n : ℕ) → cond b 6 n ≡ 0 → (b ≡ false) × (n ≡ 0)
-passed-on true n e = absurd (omega arith)
-passed-on false n e = (refl, e)
+use Rattle.responder_rules.specs.Answer.{Given, asking, savedTime, answerHeader, sentHeader, sentFields, answerOctets, rowAfter, wrongArguments, wrongFresh, answerRefusal, outcome, answerOf}
+use Rattle.responder_rules.specs.declared.Answered.the-variants.{Written, Refused}
+use Rattle.responder_rules.specs.Claim.{Accepted}
+use Rattle.responder_rules.proofs.Accepting.{not-given, answer-accepted}
 
 module _ (g : Given) (store out : List ℕ) where
   abbrev wrong : Bool
@@ -62,10 +57,10 @@ module _ (g : Given) (store out : List ℕ) where
     later = by-first ∙ rw (eq-eqb _ 0 z)
 
     pub right-store : wrongStore store ≡ false
-    right-store = or-none (wrongStore store) _ (passed-on wrong _ z .0) .0
+    right-store = or-none (wrongStore store) _ (not-given wrong 5 _ z .0) .0
 
     pub sound-request : soundRefusal (g .request) 3 ≡ 0
-    sound-request = passed-on wrong _ z .1
+    sound-request = not-given wrong 5 _ z .1
 
     pub refused-fresh : wrongFresh (asking g) (g .fresh) (rowOf store) ≡ true → outcome (Refused 8) out store ≡ answerOf g store out
     refused-fresh e = refused 8 (λ q. absurd (omega arith)) (later ∙ rw e)

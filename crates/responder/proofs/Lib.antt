@@ -1,14 +1,4 @@
--- The laws of the answer.
-pub mod Room
-pub mod Answers
-pub mod Accepting
-pub mod Laying
-pub mod Passes
+-- The laws of the answer as the code makes it.
 pub mod Writing
 pub mod Keeping
 pub mod Deciding
-pub mod Leaving
-pub mod Reported
-pub mod Owing
-pub mod Sights
-pub mod Spent

@@ -1,34 +1,21 @@
 // The responder: the answer to a request, with the saved timestamps of interleaved mode.
-mod fields;
-mod reply;
 mod saved;
 
+use header::Header;
 use header::Reading;
 use header::ServerCookie;
+pub use responder_rules::Answered;
+pub use responder_rules::Server;
 ghost use mathlib.Core.Path.{_≡_};
 ghost use mathlib.Core.Bool.{cond, _||_};
+ghost use mathlib.Core.List.{_++_};
+ghost use Prim.Native.Nat.{_≤_};
+ghost use lib.ListN.{length};
+ghost use Rattle.header.specs.Header.{octetsOf};
 ghost use Rattle.chain.specs.Chain.{soundRefusal};
+ghost use Rattle.chain.specs.Content.{chainOctets};
 ghost use Rattle.store.specs.Row.{wrongStore};
-ghost use Rattle.responder.specs.Answer.{wrongArguments, outcome, answerOf};
-
-// What a server says of its clock in every answer.
-pub struct Server {
-    pub leap: u8,
-    pub stratum: u8,
-    pub poll: i8,
-    pub precision: i8,
-    pub timescale: u8,
-    pub era: u8,
-    pub flags: u16,
-    pub root_delay: u32,
-    pub root_dispersion: u32,
-}
-
-pub enum Answered {
-    // So many octets were written, as many as the request has.
-    Written(u16),
-    Refused(u8),
-}
+ghost use Rattle.responder_rules.specs.Answer.{answerFields, wrongArguments, outcome, answerOf};
 
 // Refusal 6, then 1 to 5, or 0.
 fn check(
@@ -55,6 +42,16 @@ fn check(
         return 6;
     }
     chain::sound(request, 3)
+}
+
+// Writes an answer to a sound request over `out`, which is as long.
+fn write(header: Header, request: &[u8], filter: &[u8], information: &[u8], out: &mut [u8])
+    requires { ⌜ (soundRefusal (now request) 3 ≡ 0) × (length (now filter) ≡ 512) × (length (now information) ≡ 4)
+        × (length (now out) ≡ length (now request)) × (header .leap ≤ 3) × (header .mode ≡ 4) ⌝ }
+    ensures { λ _. ⌜ now (out .exit) ≡ octetsOf header ++ chainOctets (answerFields (now (request .entry)) (now (filter .entry)) (now (information .entry))) ⌝ }
+{
+    header::write(header, out);
+    answer_fields::write(request, filter, information, out);
 }
 
 // Answers a request: the answer goes to the start of `out` and is as long as the request. `fresh` is looked at only where the request wants an
@@ -103,8 +100,8 @@ pub fn answer(
         return Answered::Refused(11);
     }
     let time = saved::time(store, asked);
-    let header = reply::header_of(server, asked, receive, estimate, fresh, time);
-    reply::write(header, request, filter, information, &mut out[0..n]);
+    let header = answer_header::header_of(server, asked, receive, estimate, fresh, time);
+    write(header, request, filter, information, &mut out[0..n]);
     saved::keep(store, asked, fresh, time);
     Answered::Written(n as u16)
 }

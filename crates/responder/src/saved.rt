@@ -1,5 +1,5 @@
 // What an answer has to do with the saved timestamps.
-use crate::reply::wants_interleaved;
+use answer_header::wants_interleaved;
 use header::Header;
 use header::ServerCookie;
 use octets::number;
@@ -8,7 +8,7 @@ ghost use mathlib.Core.Path.{_≡_};
 ghost use mathlib.Core.Bool.{false, cond};
 ghost use lib.Dec.{eqb};
 ghost use Rattle.store.specs.Row.{timeOf, without, sizeOf, rowOf, wrongStore, storeOctets};
-ghost use Rattle.responder.specs.Answer.{savedTime, wrongFresh, rowAfter};
+ghost use Rattle.responder_rules.specs.Answer.{savedTime, wrongFresh, rowAfter};
 
 // Refusal 8: a fresh cookie is needed, and it is 0 or in the store.
 pub(crate) fn wrong_fresh(store: &[u8], asked: Header, fresh: ServerCookie) -> bool

@@ -19,8 +19,8 @@ use Rattle.exchange.specs.Request.{pollOctets}
 use Rattle.exchange.specs.declared.request.Asked.{Asked}
 use Rattle.exchange.proofs.Requests.{length-pollOctets}
 use Rattle.exchange.proofs.Polls.{nameField, requestField, poll-fields, poll-offset}
-use Rattle.responder.specs.Answer.{answersTo, answerFields}
-use Rattle.responder.proofs.Room.{response-length}
+use Rattle.responder_rules.specs.Answer.{answersTo, answerFields}
+use Rattle.responder_rules.proofs.Room.{response-length}
 
 whole-name : take 27 draftName ≡ draftName
 unfolding draftName

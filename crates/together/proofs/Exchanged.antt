@@ -27,9 +27,9 @@ use Rattle.client_rules.proofs.Pasted.{within}
 use Rattle.client_rules.proofs.Demand3.{simulates, good-reached, call-reached, octet-at}
 use Rattle.client_rules.proofs.Demand2.{accepts}
 use Rattle.store.specs.Row.{rowOf}
-use Rattle.responder.specs.Answer.{Given, answerRefusal, answerOctets, answerOf}
-use Rattle.responder.proofs.Accepting.{answer-accepted, answer-written, answer-number, answer-given}
-use Rattle.responder.proofs.Room.{response-length}
+use Rattle.responder_rules.specs.Answer.{Given, answerRefusal, answerOctets, answerOf}
+use Rattle.responder_rules.proofs.Accepting.{answer-accepted, answer-written, answer-number, answer-given}
+use Rattle.responder_rules.proofs.Room.{response-length}
 use Rattle.together.specs.Together.{Polling, chunkOf, offsetOf, callsOf, Asks, Answers, sentBy, receiving, Exchanged, Together}
 use Rattle.together.proofs.Answered.{chunkAsked, polled-size}
 use Rattle.together.proofs.Served.{Serves, served, chunk-taken, chunk-octets}

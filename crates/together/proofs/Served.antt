@@ -32,9 +32,9 @@ use Rattle.store.specs.Row.{Record, timeOf, rowOf}
 use Rattle.store.proofs.Rows.{SoundRow, time-absent}
 use Rattle.store.proofs.Changed.{held-zero}
 use Rattle.store.proofs.Stores.{store-read}
-use Rattle.responder.specs.Answer.{Given, asking, wantsInterleaved, savedTime, sentHeader, sentFields, answerFields, answerRefusal, answerOctets}
-use Rattle.responder.specs.Claim.{InRange, AnswerClaim}
-use Rattle.responder.proofs.Accepting.{answer-accepted, answer-stored, answer-given}
+use Rattle.responder_rules.specs.Answer.{Given, asking, wantsInterleaved, savedTime, sentHeader, sentFields, answerFields, answerRefusal, answerOctets}
+use Rattle.responder_rules.specs.Claim.{InRange, AnswerClaim}
+use Rattle.responder_rules.proofs.Accepting.{answer-accepted, answer-stored, answer-given}
 use Rattle.together.proofs.Answered.{chunkAsked, answering, chunkField, polled-sent, first-response, second-data}
 
 -- a request's numbers are in their ranges, and its filter request is good

@@ -12,8 +12,8 @@ use Rattle.client_rules.specs.Call.{Call, clearTable, openOne, closeOne, poll, 
 use Rattle.client_rules.specs.Octets.{tableOctets, stepOctets}
 use Rattle.client_rules.specs.Claim.{reached}
 use Rattle.store.specs.Row.{rowOf}
-use Rattle.responder.specs.Answer.{Given, Outcome, answerOf}
-use Rattle.responder.specs.Claim.{InRange}
+use Rattle.responder_rules.specs.Answer.{Given, Outcome, answerOf}
+use Rattle.responder_rules.specs.Claim.{InRange}
 
 -- calls since a table was cleared, then a poll, and the calls between it and the answer
 pub record Polling : Type 0 where

@@ -2,7 +2,7 @@
 use mathlib.Core.Path.{_∙_}
 use mir.Syntax.{w8}
 use mir.Facts.{toZ-ofZ}
-use Rattle.responder.specs.Answer.{answerOf}
+use Rattle.responder_rules.specs.Answer.{answerOf}
 use Rattle.c_structs.proofs.Told.{answered-told}
 use borrow.Author.Needs.{needs}
 use Rattle.ntp5.proofs.responder_calls.ntp5_answer.Statement.{statement}

@@ -1,0 +1,89 @@
+-- `put_field` meets its contract: its four parts are laid one after the other. Assumes nothing.
+use Rattle.answer_fields.proofs.Laying.{field-laid}
+use borrow.Author.Needs.{needs}
+use Rattle.answer_fields.proofs.put_field.Statement.{statement}
+use Rattle.answer_fields.proofs.put_field.Tie as tie
+
+add-padded : tie.Need-add-padded
+add-padded c = search needs
+
+mul-padded : tie.Need-mul-padded
+mul-padded c = search needs
+
+put16-requires : tie.Need-put16-requires
+put16-requires c κs = search needs
+
+add-put16 : tie.Need-add-put16
+add-put16 c = search needs
+
+cast-put16 : tie.Need-cast-put16
+cast-put16 c = search needs
+
+add-put16-2 : tie.Need-add-put16-2
+add-put16-2 c = search needs
+
+put16-requires-2 : tie.Need-put16-requires-2
+put16-requires-2 c κs = search needs
+
+add-copy : tie.Need-add-copy
+add-copy c = search needs
+
+copy-requires : tie.Need-copy-requires
+copy-requires c κs = search needs
+
+add-zero : tie.Need-add-zero
+add-zero c = search needs
+
+add-zero-2 : tie.Need-add-zero-2
+add-zero-2 c = search needs
+
+sub-zero : tie.Need-sub-zero
+sub-zero c = search needs
+
+zero-requires : tie.Need-zero-requires
+zero-requires c κs = search needs
+
+add-result : tie.Need-add-result
+add-result c = search needs
+
+add-result-2 : tie.Need-add-result-2
+add-result-2 c = search needs
+
+same-length : tie.Need-same-length
+same-length c = search needs
+
+returns : tie.Need-returns
+returns c =
+    let at-zero = c .before .before in
+    let at-copy = at-zero .before .before .before .before in
+    let at-put162 = at-copy .before .before .before .before in
+    let at-put16 = at-put162 .before .before .before .before in
+    let start = at-put16 .before .before .before .before in
+    let a = start .args in
+    field-laid (a .kind) (a .n) (a .from) (a .at) (a .source .now) (a .out .now) (start .pre .1) (start .pre .2)
+    (at-put16 .put16 .ensures)
+    (at-put162 .put162 .ensures)
+    (at-copy .copy .ensures)
+    (at-zero .zero .ensures)
+
+pub put-field-spec : {M : Type 1} → statement M
+put-field-spec =
+    tie.close
+    (tie.spec
+    add-padded
+    mul-padded
+    put16-requires
+    add-put16
+    cast-put16
+    add-put16-2
+    put16-requires-2
+    add-copy
+    copy-requires
+    add-zero
+    add-zero-2
+    sub-zero
+    zero-requires
+    add-result
+    add-result-2
+    same-length
+    returns)

@@ -1,0 +1,3 @@
+-- The fields of an answer, as they are written.
+pub mod Fields
+pub mod Pass

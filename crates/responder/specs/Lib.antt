@@ -1,5 +1,0 @@
--- The responder of document 01.
-pub mod Answer
-pub mod Claim
-pub mod Pass
-pub mod Once

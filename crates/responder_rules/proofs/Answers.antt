@@ -1,0 +1,163 @@
+-- An answer is as long as its request and sound, and reads as what went in. Assumes nothing.
+use mathlib.Core.Path.{_≡_, ap, _∙_, subst}
+use mathlib.Core.Bool.{Bool, true, false, cond}
+use mathlib.Core.List.{List, [], _++_, append-assoc}
+use Prim.Native.Nat.{ℕ, _+_, _-_, _*_, _/_, _%_, _<_, _^_}
+use native.Mathlib.Omega.{arith}
+use lib.Dec.{eqb, lit<}
+use lib.ListN.{length, take, drop, length-append}
+use lib.Seq.{drop-at}
+use Rattle.header.specs.Header.{headerOf, octetsOf}
+use Rattle.header.specs.declared.Header.{Header}
+use Rattle.header.proofs.Refusals.{accepted, refusal-none, Accepted as Passed}
+use Rattle.header.proofs.RoundTrip.{length-octetsOf, read-written, version-written, mode-written, read-in-range, InRange as HeaderRange}
+use Rattle.chain.specs.Chain.{soundRefusal, chainRefusal}
+use Rattle.chain.specs.Field.{fieldsOf}
+use Rattle.chain.specs.Content.{Content, chainOctets, placed, contentsOf}
+use Rattle.chain.specs.Role.{roleOf}
+use Rattle.chain.specs.declared.cursor.Field.{Field}
+use Rattle.chain.specs.declared.role.Role.the-variants.{FilterRequest}
+use Rattle.chain.proofs.Datagrams.{header-passes, sound-datagram}
+use Rattle.chain.proofs.Roles.{Suits, suits}
+use Rattle.chain.proofs.Contents.{AllFit, fit-append, chain-fours, length-chain-append, fields-written, chain-written, contents-written}
+use Rattle.store.specs.Row.{Record, timeOf}
+use Rattle.responder_rules.specs.Answer.{Given, wantsInterleaved, savedTime, sentHeader, answersTo, paddingOf, answerFields, answerOctets, asking, sentFields}
+use Rattle.responder_rules.specs.Claim.{Accepted, InRange, AnswerClaim}
+use Rattle.responder_rules.proofs.Room.{answers-fit, all-fit, padding-size, padding-fits, response-length}
+
+module _ (g : Given) (a : Accepted g) where
+  abbrev answers : List Content
+  answers = answersTo (g .request) (g .filter) (g .information) [] (fieldsOf (g .request))
+
+  abbrev left : ℕ
+  left = length (g .request) - (48 + length (chainOctets answers))
+
+  -- none of refusals 1, 2 and 3 applies to the request
+  passed : Passed (g .request) 3
+  passed = accepted (g .request) 3 (header-passes (g .request) 3 (a .request))
+
+  -- the answers and the padding fill what stands after the header
+  pub fields-size : length (chainOctets (sentFields g)) ≡ length (g .request) - 48
+  unfolding answerFields
+  fields-size =
+      let p = passed in
+      let fit = answers-fit (g .request) (g .filter) (g .information) (a .filter) (a .information) (g .request) [] 48 (p .low) in
+      let fours = chain-fours answers in
+      let padding = padding-size left (omega arith) in
+      length-chain-append answers (paddingOf left) ∙ omega arith
+
+  -- each of them fits in the 16 bits of its length
+  fields-fit : AllFit (sentFields g)
+  unfolding answerFields
+  fields-fit =
+      let p = passed in
+      fit-append answers (paddingOf left) (all-fit (g .request) (g .filter) (g .information) (a .filter) (a .information) [] (fieldsOf (g .request))) (padding-fits left (omega arith))
+
+  -- an answer is as long as its request
+  pub answer-size : (row : List Record) → length (answerOctets g row) ≡ length (g .request)
+  unfolding answerOctets
+  answer-size row =
+      let p = passed in
+      let h = sentHeader g row in
+      omega (arith, length-append (octetsOf h) (chainOctets (sentFields g)), length-octetsOf h, fields-size)
+
+  -- a filter response is as long as what was asked
+  responses : (before : List Field) (f : Field) (offset : ℕ) → roleOf (g .request) before f ≡ FilterRequest offset
+      → length (take (f .length) (drop offset (g .filter))) ≡ f .length
+  responses before f offset e =
+      let good = subst (Suits f) e (suits (g .request) before f) in
+      response-length (g .filter) offset (f .length) (a .filter) (good .inside)
+
+  module _ (row : List Record) where
+    abbrev sent : Header
+    sent = sentHeader g row
+
+    -- the chain of an answer is not refused
+    chain-passes : chainRefusal (drop 48 (answerOctets g row)) ≡ 0
+    unfolding answerOctets
+    chain-passes =
+        rw (drop-at (octetsOf sent) (chainOctets (sentFields g)) 48 (length-octetsOf sent)) (chain-written (sentFields g) fields-fit)
+
+    -- an answer is sound where a response is wanted
+    pub answer-sound : soundRefusal (answerOctets g row) 4 ≡ 0
+    unfolding answerOctets
+    answer-sound =
+        let p = passed in
+        let leap = a .leap in
+        let l = answer-size row in
+        sound-datagram (answerOctets g row) 4
+        (refusal-none (answerOctets g row) 4 (record {
+          low = omega arith;
+          high = omega arith;
+          four = rw l (p .four);
+          version = version-written sent (chainOctets (sentFields g)) (omega arith) (lit< tt);
+          mode = mode-written sent (chainOctets (sentFields g)) (omega arith) (lit< tt);
+        }))
+        chain-passes
+
+    -- its fields are those that the page lists and no others
+    pub answer-fields : fieldsOf (answerOctets g row) ≡ placed 48 (sentFields g)
+    unfolding answerOctets
+    answer-fields = fields-written (octetsOf sent) (sentFields g) 48 (length-octetsOf sent) fields-fit
+
+    -- and so are their data
+    pub answer-contents : contentsOf (answerOctets g row) (fieldsOf (answerOctets g row)) ≡ sentFields g
+    unfolding answerOctets
+    answer-contents = contents-written (octetsOf sent) (sentFields g) 48 (length-octetsOf sent) fields-fit
+
+-- the numbers of an answer's header are in range
+
+pub either : (b : Bool) (x y n : ℕ) → x < n → y < n → cond b x y < n
+either true x y n h k = h
+either false x y n h k = k
+
+flags-range : (b : Bool) (flags : ℕ) → flags < 2 ^ 16 → flags - flags / 2 % 2 * 2 + cond b 0 2 < 2 ^ 16
+flags-range true flags h = omega arith
+flags-range false flags h = omega arith
+
+module _ (g : Given) (row : List Record) (a : Accepted g) (r : InRange g row) where
+  saved-range : savedTime (asking g) row < 2 ^ 64
+  saved-range = either (wantsInterleaved (asking g)) (timeOf (headerOf (g .request) .«server_cookie» .0) row) 0 (2 ^ 64) (r .times _) (lit< tt)
+
+  -- all of them
+  header-range : HeaderRange (sentHeader g row)
+  header-range =
+      let leap = a .leap in
+      record {
+        leap = omega arith;
+        mode = lit< tt;
+        stratum = r .stratum;
+        poll = r .poll;
+        precision = r .precision;
+        timescale = r .timescale;
+        era = r .era;
+        flags = flags-range (eqb (savedTime (asking g) row) 0) (g .server .flags) (r .flags);
+        delay = r .delay;
+        dispersion = r .dispersion;
+        server = either (wantsInterleaved (asking g)) (g .fresh) 0 (2 ^ 64) (r .fresh) (lit< tt);
+        client = read-in-range (g .request) (r .request) .client;
+        receive = r .receive;
+        transmit = either (eqb (savedTime (asking g) row) 0) (g .estimate) (savedTime (asking g) row) (2 ^ 64) (r .estimate) saved-range;
+      }
+
+  -- an answer's header reads as the values that went in
+  pub answer-header : headerOf (answerOctets g row) ≡ sentHeader g row
+  unfolding answerOctets
+  answer-header = read-written (sentHeader g row) (chainOctets (sentFields g)) header-range
+
+  -- also where other octets stand after the answer
+  pub answer-header-more : (t : List ℕ) → headerOf (answerOctets g row ++ t) ≡ sentHeader g row
+  unfolding answerOctets
+  answer-header-more t =
+      let h = sentHeader g row in
+      ap headerOf (append-assoc (octetsOf h) (chainOctets (sentFields g)) t) ∙ read-written h (chainOctets (sentFields g) ++ t) header-range
+
+  pub answer-claim : AnswerClaim g row
+  answer-claim = record {
+    long = answer-size g a row;
+    sound = answer-sound g a row;
+    header = answer-header;
+    fields = answer-fields g a row;
+    contents = answer-contents g a row;
+    responses = responses g a;
+  }

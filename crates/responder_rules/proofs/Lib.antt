@@ -1,0 +1,9 @@
+-- The laws of the answer.
+pub mod Room
+pub mod Answers
+pub mod Accepting
+pub mod Leaving
+pub mod Reported
+pub mod Owing
+pub mod Sights
+pub mod Spent

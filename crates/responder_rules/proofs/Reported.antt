@@ -1,0 +1,51 @@
+-- What a clear and a report return and leave, and that they leave the octets of a sound row. Assumes nothing.
+use mathlib.Core.Path.{_≡_, sym, ap, _∙_}
+use mathlib.Core.Bool.{true, false, not, _||_}
+use mathlib.Core.List.{List, []}
+use Prim.Native.Nat.{ℕ, _<_, _^_}
+use native.Mathlib.Omega.{arith}
+use borrow.Author.Tests.{ne-eqb, not-false}
+use lib.Dec.{eqb}
+use Rattle.store.specs.Row.{Record, held, timeOf, reported, storeOctets, sizeOf, rowOf, wrongSize, wrongStore, cleared, reportRefusal, reporting}
+use Rattle.store.proofs.Rows.{or-none}
+use Rattle.store.proofs.Stores.{Stores, right-size, store-written, stores-row, stores-size}
+use Rattle.store.proofs.Kept.{length-reported, sound-reported}
+use Rattle.responder_rules.proofs.Accepting.{not-given}
+
+-- ---- a clear
+
+-- a clear of octets of the right size
+pub clear-done : (s : List ℕ) → wrongSize s ≡ false → cleared s ≡ (0, storeOctets (sizeOf s) [])
+unfolding cleared
+clear-done s h = rw h
+
+-- leaves an empty row
+pub clear-stores : (s : List ℕ) → wrongSize s ≡ false → Stores (cleared s .1) (sizeOf s) []
+clear-stores s h = let z = right-size s h in rw (clear-done s h) (store-written (sizeOf s) [] tt (omega arith) (z .0) (z .1))
+
+-- ---- a report
+
+-- a refused report leaves the store
+pub report-refused : (s : List ℕ) (c t : ℕ) → (reportRefusal s c t ≡ 0 → ⊥) → reporting s c t ≡ (reportRefusal s c t, s)
+unfolding reporting
+report-refused s c t h = rw (ne-eqb (reportRefusal s c t) 0 h)
+
+module _ {s : List ℕ} {n : ℕ} {row : List Record} (w : Stores s n row) (c t : ℕ) (e : reportRefusal s c t ≡ 0) where
+  -- one that is accepted finds its cookie
+  pub report-held : held c row ≡ true
+  report-held =
+      let p = not-given (wrongStore s || eqb t 0) 5 _ e in
+      let q = not-given (not (held c (rowOf s)) || not (eqb (timeOf c (rowOf s)) 0)) 11 0 (p .1) in
+      ap (held c) (sym (stores-row w)) ∙ not-false _ (or-none (not (held c (rowOf s))) _ (q .0) .0)
+
+  -- and gives it the time
+  pub report-done : reporting s c t ≡ (0, storeOctets n (reported c t row))
+  unfolding reporting
+  report-done = rw (e, stores-row w, stores-size w)
+
+  -- the row stays sound and within its size
+  pub report-stores : t < 2 ^ 64 → Stores (storeOctets n (reported c t row)) n (reported c t row)
+  report-stores small =
+      let k = w .within in
+      let l = length-reported c t row in
+      store-written n (reported c t row) (sound-reported c t row small (w .sound)) (omega arith) (w .low) (w .high)

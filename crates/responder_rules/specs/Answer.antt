@@ -1,0 +1,140 @@
+-- Document 01, "Responder and store": the answer to a request, its octets, and what it leaves in the store.
+use mathlib.Core.Bool.{Bool, cond, not, _&&_, _||_}
+use mathlib.Core.List.{List, [], _∷_, _++_}
+use Prim.Native.Nat.{ℕ, _+_, _-_, _*_, _/_, _%_}
+use lib.Dec.{eqb, ltb}
+use lib.ListN.{length, take, drop, replicate}
+use Rattle.header.specs.Header.{headerOf, octetsOf, interleavedFlag}
+use Rattle.header.specs.declared.Header.{Header}
+use Rattle.chain.specs.Chain.{soundRefusal}
+use Rattle.chain.specs.Field.{fieldsOf}
+use Rattle.chain.specs.Content.{Content, content, chainOctets, draftName}
+use Rattle.chain.specs.Role.{roleOf}
+use Rattle.chain.specs.declared.cursor.Field.{Field}
+use Rattle.chain.specs.declared.role.Role.{Role}
+use Rattle.chain.specs.declared.role.Role.the-variants.{FilterRequest, Information, DraftName, Unknown}
+use Rattle.store.specs.Row.{Record, held, timeOf, without, joined, storeOctets, sizeOf, rowOf, wrongStore}
+use Rattle.responder_rules.specs.declared.Server.{Server}
+use Rattle.responder_rules.specs.declared.Answered.{Answered}
+use Rattle.responder_rules.specs.declared.Answered.the-variants.{Written, Refused}
+
+-- what an answer takes beside the store and the output
+pub record Given : Type 0 where
+  pub request : List ℕ
+  pub receive : ℕ
+  pub estimate : ℕ
+  pub fresh : ℕ
+  pub server : Server
+  pub filter : List ℕ
+  pub information : List ℕ
+
+-- the header of the request
+abbrev pub asking : Given → Header
+asking g = headerOf (g .request)
+
+-- the request's flag 0x2
+abbrev pub wantsInterleaved : Header → Bool
+wantsInterleaved asked = interleavedFlag (asked .flags)
+
+-- the time saved for the request's server cookie; 0 where flag 0x2 is clear, or the cookie isn't stored with a reported time
+abbrev pub savedTime : Header → List Record → ℕ
+savedTime asked row = cond (wantsInterleaved asked) (timeOf (asked .«server_cookie» .0) row) 0
+
+-- an interleaved answer sends the saved time, a basic one (saved time 0) the estimate; flag 0x2 is set in the first only
+abbrev pub answerHeader : Server → (asked : Header) (receive estimate fresh saved : ℕ) → Header
+answerHeader server asked receive estimate fresh saved = record {
+  leap = server .leap;
+  mode = 4;
+  stratum = server .stratum;
+  poll = server .poll;
+  precision = server .precision;
+  timescale = server .timescale;
+  era = server .era;
+  flags = server .flags - server .flags / 2 % 2 * 2 + cond (eqb saved 0) 0 2;
+  «root_delay» = server .«root_delay»;
+  «root_dispersion» = server .«root_dispersion»;
+  «server_cookie» = record { 0 = cond (wantsInterleaved asked) fresh 0 };
+  «client_cookie» = asked .«client_cookie»;
+  receive = receive;
+  transmit = cond (eqb saved 0) estimate saved;
+}
+
+-- what answers a field: a filter response of equal length, server information, our first min(27, k) name octets
+abbrev pub answerTo : (filter information : List ℕ) → Field → Role → List Content
+answerTo filter information f (FilterRequest offset) = content 0xF504 (take (f .length) (drop offset filter)) ∷ []
+answerTo filter information f Information = content 0xF505 information ∷ []
+answerTo filter information f DraftName = content 0xF5FF (take (f .length) draftName) ∷ []
+answerTo filter information f Unknown = []
+
+-- the answers to fields of the request, in its order, where some stand before
+unfoldable pub answersTo : (request filter information : List ℕ) (before fs : List Field) → List Content
+answersTo request filter information before [] = []
+answersTo request filter information before (f ∷ fs) =
+    answerTo filter information f (roleOf request before f) ++ answersTo request filter information (before ++ (f ∷ [])) fs
+
+-- if n octets are left, one padding field with zeros fills them
+abbrev pub paddingOf : ℕ → List Content
+paddingOf n = cond (eqb n 0) [] (content 0xF501 (replicate (n - 4) 0) ∷ [])
+
+unfoldable pub answerFields : (request filter information : List ℕ) → List Content
+answerFields request filter information =
+    let answers = answersTo request filter information [] (fieldsOf request) in
+    answers ++ paddingOf (length request - (48 + length (chainOctets answers)))
+
+-- the header and the fields of an answer
+abbrev pub sentHeader : Given → List Record → Header
+sentHeader g row = answerHeader (g .server) (asking g) (g .receive) (g .estimate) (g .fresh) (savedTime (asking g) row)
+
+abbrev pub sentFields : Given → List Content
+sentFields g = answerFields (g .request) (g .filter) (g .information)
+
+unfoldable pub answerOctets : Given → List Record → List ℕ
+answerOctets g row = octetsOf (sentHeader g row) ++ chainOctets (sentFields g)
+
+-- the row after an answer: the record whose time is sent leaves; then the fresh cookie joins the end
+abbrev pub rowAfter : (asked : Header) (fresh n : ℕ) → List Record → List Record
+rowAfter asked fresh n row =
+    cond (wantsInterleaved asked)
+    (joined n fresh (cond (eqb (savedTime asked row) 0) row (without (asked .«server_cookie» .0) row)))
+    row
+
+-- the filter or the server information of wrong size, leap above 3, receive or estimated time 0
+abbrev pub wrongArguments : (filter information : List ℕ) (leap receive estimate : ℕ) → Bool
+wrongArguments filter information leap receive estimate =
+    not (eqb (length filter) 512) || not (eqb (length information) 4) || ltb 3 leap || eqb receive 0 || eqb estimate 0
+
+-- 8: a fresh cookie is needed, and it is 0 or in the store at entry
+abbrev pub wrongFresh : (asked : Header) (fresh : ℕ) → List Record → Bool
+wrongFresh asked fresh row = wantsInterleaved asked && (eqb fresh 0 || held fresh row)
+
+-- the refusals in the page's order
+unfoldable pub answerRefusal : Given → (store out : List ℕ) → ℕ
+answerRefusal g store out =
+    cond (wrongStore store || wrongArguments (g .filter) (g .information) (g .server .leap) (g .receive) (g .estimate)) 6
+    (cond (not (eqb (soundRefusal (g .request) 3) 0)) (soundRefusal (g .request) 3)
+    (cond (wrongFresh (asking g) (g .fresh) (rowOf store)) 8
+    (cond (ltb (length out) (length (g .request))) 11
+    0)))
+
+-- all that an answer returns and leaves
+pub record Outcome : Type 0 where
+  pub refusal : ℕ
+  pub length : ℕ
+  pub out : List ℕ
+  pub store : List ℕ
+
+-- the page's number and value for each case of the call's answer
+abbrev pub outcome : Answered → (out store : List ℕ) → Outcome
+outcome (Written n) out store = record { refusal = 0; length = n; out = out; store = store }
+outcome (Refused n) out store = record { refusal = n; length = 0; out = out; store = store }
+
+unfoldable pub answerOf : Given → (store out : List ℕ) → Outcome
+answerOf g store out =
+    cond (eqb (answerRefusal g store out) 0)
+    (record {
+      refusal = 0;
+      length = length (g .request);
+      out = answerOctets g (rowOf store) ++ drop (length (g .request)) out;
+      store = storeOctets (sizeOf store) (rowAfter (asking g) (g .fresh) (sizeOf store) (rowOf store));
+    })
+    (record { refusal = answerRefusal g store out; length = 0; out = out; store = store })

@@ -1,0 +1,4 @@
+-- The responder of document 01.
+pub mod Answer
+pub mod Claim
+pub mod Once

@@ -1,0 +1,102 @@
+-- Document 01, the once-only rule: over every list of clears, reports and answers on a cleared store, a saved time answers at most once.
+use mathlib.Core.Path.{_≡_}
+use mathlib.Core.Bool.{Bool, true, false, cond, _&&_}
+use mathlib.Core.List.{List, [], _∷_}
+use Prim.Native.Nat.{ℕ, _<_, _≤_, _^_}
+use lib.Dec.{eqb}
+use lib.ListN.{length}
+use Rattle.header.specs.Header.{headerOf, interleavedFlag}
+use Rattle.store.specs.Row.{Record, held, timeOf, without, sizeOf, rowOf, wrongSize, wrongStore, cleared, reporting}
+use Rattle.responder_rules.specs.Answer.{Given, asking, Outcome, answerOf}
+use Rattle.responder_rules.specs.Claim.{InRange}
+
+-- ---- calls
+
+-- `out` is an answer's output as lent
+pub data Call : Type 0 where
+  clear : Call
+  report : (cookie time : ℕ) → Call
+  answer : (given : Given) (out : List ℕ) → Call
+
+-- the arguments are of their types; nothing is asked of the store's row
+abbrev pub Typed : Call → Type 0
+Typed clear = Unit {0}
+Typed (report c t) = (c < 2 ^ 64) × (t < 2 ^ 64)
+Typed (answer g out) = InRange g []
+
+abbrev pub AllTyped : List Call → Type 0
+AllTyped [] = Unit {0}
+AllTyped (c ∷ cs) = Typed c × AllTyped cs
+
+-- all that a call on a store returns and leaves
+abbrev pub step : Call → List ℕ → Outcome
+step clear s = record { refusal = cleared s .0; length = 0; out = []; store = cleared s .1 }
+step (report c t) s = record { refusal = reporting s c t .0; length = 0; out = []; store = reporting s c t .1 }
+step (answer g out) s = answerOf g s out
+
+-- the store after calls
+unfoldable pub reached : List Call → List ℕ → List ℕ
+reached [] s = s
+reached (c ∷ cs) s = reached cs (step c s .store)
+
+-- ---- what an observer sees, who knows nothing of the store
+
+-- the request's server cookie
+abbrev pub askedCookie : Given → ℕ
+askedCookie g = asking g .«server_cookie» .0
+
+-- an interleaved answer: it is not refused, and flag 0x2 is set in the header that stands in the output
+abbrev pub interleaved : (refusal : ℕ) (out : List ℕ) → Bool
+interleaved refusal out = eqb refusal 0 && interleavedFlag (headerOf out .flags)
+
+pub data Event : Type 0 where
+  -- a clear
+  forgets : Event
+  -- a report that was accepted
+  reports : (cookie time : ℕ) → Event
+  -- an interleaved answer: the server cookie of its request, and the transmit timestamp of the header that was written
+  sends : (cookie time : ℕ) → Event
+  -- any other call
+  other : Event
+
+-- a call by its arguments, its refusal number and its output afterwards
+abbrev pub eventOf : Call → (refusal : ℕ) (out : List ℕ) → Event
+eventOf clear refusal out = cond (eqb refusal 0) forgets other
+eventOf (report c t) refusal out = cond (eqb refusal 0) (reports c t) other
+eventOf (answer g lent) refusal out = cond (interleaved refusal out) (sends (askedCookie g) (headerOf out .transmit)) other
+
+unfoldable pub events : List Call → List ℕ → List Event
+events [] s = []
+events (c ∷ cs) s = eventOf c (step c s .refusal) (step c s .out) ∷ events cs (step c s .store)
+
+-- `owed` has the times that were reported and not sent since, for each cookie the last one. A sent time is the one owed to the cookie
+-- of its request, and is owed no more
+unfoldable pub balanced : (owed : List Record) → List Event → Bool
+balanced owed [] = true
+balanced owed (forgets ∷ es) = balanced [] es
+balanced owed (reports c t ∷ es) = balanced (record { cookie = c; time = t } ∷ without c owed) es
+balanced owed (sends c t ∷ es) = held c owed && eqb (timeOf c owed) t && balanced (without c owed) es
+balanced owed (other ∷ es) = balanced owed es
+
+-- ---- the claim
+
+-- a store of n records, to which the store part of refusal 6 does not apply
+pub record Right (n : ℕ) (s : List ℕ) : Type 0 where
+  pub right : wrongStore s ≡ false
+  pub size : sizeOf s ≡ n
+  pub within : length (rowOf s) ≤ n
+  -- no cookie stands twice: when its record leaves, it is not in the row
+  pub once : (c : ℕ) → held c (without c (rowOf s)) ≡ false
+
+pub record OnceClaim (s : List ℕ) (cs : List Call) : Type 0 where
+  -- each reported time is sent at most once, and only in answer to a request with the cookie that it was reported for
+  pub spent : balanced [] (events cs (cleared s .1)) ≡ true
+  -- the calls leave a right store, of the size that it had
+  pub kept : Right (sizeOf s) (reached cs (cleared s .1))
+  -- after an interleaved answer the cookie of its request is not in the store
+  pub gone : (g : Given) (out : List ℕ) → InRange g [] → let w = answerOf g (reached cs (cleared s .1)) out in
+      interleaved (w .refusal) (w .out) ≡ true → held (askedCookie g) (rowOf (w .store)) ≡ false
+
+-- for any octets of the right size and every list of calls
+abbrev pub Once : Type 0
+Once = (s : List ℕ) → wrongSize s ≡ false → (cs : List Call) → AllTyped cs → OnceClaim s cs

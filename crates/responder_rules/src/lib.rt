@@ -1,0 +1,20 @@
+// The answer of document 01: specs/ defines it and says what holds of it, proofs/ that it does. There is no code, only the answer's types.
+
+// What a server says of its clock in every answer.
+pub struct Server {
+    pub leap: u8,
+    pub stratum: u8,
+    pub poll: i8,
+    pub precision: i8,
+    pub timescale: u8,
+    pub era: u8,
+    pub flags: u16,
+    pub root_delay: u32,
+    pub root_dispersion: u32,
+}
+
+pub enum Answered {
+    // So many octets were written, as many as the request has.
+    Written(u16),
+    Refused(u8),
+}
