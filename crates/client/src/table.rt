@@ -2,7 +2,7 @@
 use association::record;
 use state::event::Event;
 use state::event::Reply;
-use state::step;
+use state::reply::plain_reply;
 ghost use mathlib.Core.Path.{_≡_};
 ghost use mathlib.Core.List.{[]};
 ghost use Prim.Native.Nat.{_<_};
@@ -16,10 +16,10 @@ pub(crate) fn apply(table: &mut [u8], association: u8, event: Event, datagram: &
     ensures { λ r. ⌜ (r, now (table .exit)) ≡ atOctets association event (now (datagram .entry)) (now (table .entry)) ⌝ }
 {
     if table.len() != 10240 {
-        return step::plain_reply(6);
+        return plain_reply(6);
     }
     if 15 < association {
-        return step::plain_reply(6);
+        return plain_reply(6);
     }
     let from = association as usize * 640;
     let to = from + 640;
@@ -31,10 +31,10 @@ pub(crate) fn look(table: &[u8], association: u8) -> Reply
     ensures { λ r. ⌜ r ≡ atOctets association Look [] (now (table .entry)) .0 ⌝ }
 {
     if table.len() != 10240 {
-        return step::plain_reply(6);
+        return plain_reply(6);
     }
     if 15 < association {
-        return step::plain_reply(6);
+        return plain_reply(6);
     }
     let from = association as usize * 640;
     let to = from + 640;
