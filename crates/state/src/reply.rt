@@ -1,4 +1,4 @@
-// The reply that tells a refusal alone, and the change that a refusal is: none.
+// The reply of a refusal, and what a refusal does to the numbers: nothing.
 use crate::event::Reply;
 use crate::head::Change;
 use crate::head::Filling;
