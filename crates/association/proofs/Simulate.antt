@@ -195,8 +195,12 @@ module _ (datagram : List ℕ) where
       ap (λ (n : ℕ). takenAfter n (o .chunk)) (count-of o g) ∙ sym (w .after) ∙ sym (count-first (w .count)) ∙ ap countTaken (sym (w .flags))
       ∙ ap (λ (n : ℕ). countTaken (paste (o .taken) n (replicate (o .chunk) true) (o .chunk))) (sym e)
 
+  -- a response that is accepted
+  abbrev accepted : Response → Head → Change
+  accepted r h = acceptedHead r (advanced (h .next) (h .chunk)) (takenAfter (h .taken) (h .chunk)) h
+
   accept-with : (r : Response) (o : Opened) (k : Outstanding) → GoodOpened o → GoodRequest o k → GoodResponse r datagram
-      → laidWith o (some k) (acceptedHead r (headWith o (some k))) ≡ encoded (replyOf r o k, opened (received r datagram o k))
+      → laidWith o (some k) (accepted r (headWith o (some k))) ≡ encoded (replyOf r o k, opened (received r datagram o k))
   accept-with r o k g h w =
       both (eqb (outcomeOf r (o .chunk)) 1) (laidWith o (some k)) (λ (x : Opened). encoded (replyOf r o k, opened x))
       (λ t.
@@ -212,12 +216,12 @@ module _ (datagram : List ℕ) where
   -- what comes after the cookie was compared
   abbrev checked : Response → Opened → Outstanding → Change
   checked r o k =
-      cond (r .interleaved && eqb (k .server) 0) (refuse 10 (headWith o (some k))) (acceptedHead r (headWith o (some k)))
+      cond (r .interleaved && eqb (k .server) 0) (refuse 10 (headWith o (some k))) (accepted r (headWith o (some k)))
 
   receive-with : (r : Response) (o : Opened) (q : Option Outstanding) → GoodOpened o → GoodOutstanding o q → GoodResponse r datagram
       → laidWith o q (
       cond (eqb (outstandingOf q) 0 || not (eqb (r .client .0) (cookieOf (o .last)))) (refuse 9 (headWith o q))
-      (cond (r .interleaved && eqb (requestOf q .server .0) 0) (refuse 10 (headWith o q)) (acceptedHead r (headWith o q)))
+      (cond (r .interleaved && eqb (requestOf q .server .0) 0) (refuse 10 (headWith o q)) (accepted r (headWith o q)))
       )
       ≡ encoded (
       onRequest q (refuseAt 9 (opened o))
@@ -234,7 +238,7 @@ module _ (datagram : List ℕ) where
       (λ u. accept-with r o k g h w))
 
   sim-receive : (r : Response) (p : Place) → GoodPlace p → GoodResponse r datagram
-      → laidOn p (receiveHead r (placeHead p)) ≡ encoded (placeDo (Receive r) datagram p)
+      → laidOn p (changeOf (Receive r) (placeHead p)) ≡ encoded (placeDo (Receive r) datagram p)
   unfolding receiveHead placeDo
   sim-receive r closed g w = both (eqb (r .t4) 0) (laidOn closed) encoded (λ t. refl) (λ t. refl)
   sim-receive r (opened o) g w =

@@ -1,6 +1,6 @@
-// What each event does to the numbers of an association; 6 if one is out of its range. Each event tests the ranges itself, as
-// `reception` does, so that they are tested once in a call.
+// What each event does to the numbers of an association; 6 if one is out of its range.
 use exchange::request::Asked;
+use exchange::response::Response;
 use header::ClientCookie;
 use header::ServerCookie;
 use state::event::Event;
@@ -13,8 +13,12 @@ use state::range;
 use state::reply::plain_reply;
 use state::reply::refuse;
 ghost use mathlib.Core.Path.{_≡_};
-ghost use Rattle.state.specs.declared.event.Event.the-variants.{Open, Close, Poll, Sent, Look};
-ghost use Rattle.state.specs.Step.{done, sentServer, changed};
+ghost use mathlib.Core.Bool.{true};
+ghost use Prim.Native.Nat.{_+_, _≤_};
+ghost use Rattle.state.specs.declared.event.Event.the-variants.{Receive, Look};
+ghost use Rattle.state.specs.Rules.{advanced};
+ghost use Rattle.state.specs.Range.{inRange};
+ghost use Rattle.state.specs.Step.{done, openHead, closeHead, pollHead, sentServer, sentHead, takenAfter, lookHead, changeOf, changed};
 
 fn done(h: Head, filling: Filling) -> Change
     ensures { λ r. ⌜ r ≡ done h filling ⌝ }
@@ -27,27 +31,24 @@ fn done(h: Head, filling: Filling) -> Change
 }
 
 fn open(h: Head, timescale: u8, chunk: u16) -> Change
-    ensures { λ r. ⌜ r ≡ changed (Open timescale chunk) h ⌝ }
+    ensures { λ r. ⌜ r ≡ openHead timescale chunk h ⌝ }
 {
-    if !range::in_range(h) | !range::is_offered(chunk as u64) {
-        return refuse(6, h);
-    }
-    if h.state != 0 {
+    if range::is_offered(chunk as u64) {
+        if h.state == 0 {
+            let mut opened = head::closed_head();
+            opened.state = 1;
+            opened.timescale = timescale as u64;
+            opened.chunk = chunk as u64;
+            return done(opened, Filling::Clear);
+        }
         return refuse(7, h);
     }
-    let mut opened = head::closed_head();
-    opened.state = 1;
-    opened.timescale = timescale as u64;
-    opened.chunk = chunk as u64;
-    done(opened, Filling::Clear)
+    refuse(6, h)
 }
 
 fn close(h: Head) -> Change
-    ensures { λ r. ⌜ r ≡ changed Close h ⌝ }
+    ensures { λ r. ⌜ r ≡ closeHead h ⌝ }
 {
-    if !range::in_range(h) {
-        return refuse(6, h);
-    }
     if h.state == 0 {
         return refuse(7, h);
     }
@@ -67,12 +68,10 @@ fn sent_server(interleaved: bool, h: Head) -> ServerCookie
 }
 
 fn poll(h: Head, cookie: ClientCookie, interleaved: bool, room: usize) -> Change
-    ensures { λ r. ⌜ r ≡ changed (Poll cookie interleaved room) h ⌝ }
+    requires { ⌜ inRange h ≡ true ⌝ }
+    ensures { λ r. ⌜ r ≡ pollHead (cookie .0) interleaved room h ⌝ }
 {
     let last = h.last;
-    if !range::in_range(h) {
-        return refuse(6, h);
-    }
     if h.state == 0 {
         return refuse(7, h);
     }
@@ -109,10 +108,10 @@ fn poll(h: Head, cookie: ClientCookie, interleaved: bool, room: usize) -> Change
 }
 
 fn sent(h: Head, t1: u64) -> Change
-    ensures { λ r. ⌜ r ≡ changed (Sent t1) h ⌝ }
+    ensures { λ r. ⌜ r ≡ sentHead t1 h ⌝ }
 {
     let mut request = h.request;
-    if !range::in_range(h) | (t1 == 0) {
+    if t1 == 0 {
         return refuse(6, h);
     }
     if (h.state == 0) | (h.outstanding == 0) | (request.t1 != 0) {
@@ -126,13 +125,34 @@ fn sent(h: Head, t1: u64) -> Change
     done(reported, Filling::Keep)
 }
 
-// What a call that only reads is told.
-pub fn look_at(h: Head) -> Change
-    ensures { λ r. ⌜ r ≡ changed Look h ⌝ }
+// What the next offset becomes with a chunk.
+fn advance(next: u64, chunk: u64) -> u64
+    requires { ⌜ next + chunk ≤ 1024 ⌝ }
+    ensures { λ n. ⌜ n ≡ advanced next chunk ⌝ }
 {
-    if !range::in_range(h) {
-        return refuse(6, h);
-    }
+    if next + chunk == 512 { 0 } else { next + chunk }
+}
+
+// What the count of taken octets becomes with a chunk.
+fn taken_after(taken: u64, chunk: u64) -> u64
+    requires { ⌜ taken + chunk ≤ 1024 ⌝ }
+    ensures { λ n. ⌜ n ≡ takenAfter taken chunk ⌝ }
+{
+    if taken == 512 { 512 } else { taken + chunk }
+}
+
+fn receive(h: Head, r: Response) -> Change
+    requires { ⌜ inRange h ≡ true ⌝ }
+    ensures { λ d. ⌜ d ≡ changeOf (Receive r) h ⌝ }
+{
+    let next = advance(h.next, h.chunk);
+    let taken = taken_after(h.taken, h.chunk);
+    reception::receive(h, r, next, taken)
+}
+
+fn look(h: Head) -> Change
+    ensures { λ r. ⌜ r ≡ lookHead h ⌝ }
+{
     if h.state == 0 {
         return refuse(7, h);
     }
@@ -145,16 +165,36 @@ pub fn look_at(h: Head) -> Change
     }
 }
 
-// What an event does to the numbers.
-pub fn change_of(event: Event, h: Head) -> Change
-    ensures { λ r. ⌜ r ≡ changed event h ⌝ }
+fn change_in_range(event: Event, h: Head) -> Change
+    requires { ⌜ inRange h ≡ true ⌝ }
+    ensures { λ r. ⌜ r ≡ changeOf event h ⌝ }
 {
     match event {
         Event::Open(timescale, chunk) => open(h, timescale, chunk),
         Event::Close => close(h),
         Event::Poll(cookie, interleaved, room) => poll(h, cookie, interleaved, room),
         Event::Sent(t1) => sent(h, t1),
-        Event::Receive(r) => reception::receive(h, r),
-        Event::Look => look_at(h),
+        Event::Receive(r) => receive(h, r),
+        Event::Look => look(h),
     }
+}
+
+// What an event does to the numbers; 6 if one is out of its range.
+pub fn change_of(event: Event, h: Head) -> Change
+    ensures { λ r. ⌜ r ≡ changed event h ⌝ }
+{
+    if range::in_range(h) {
+        return change_in_range(event, h);
+    }
+    refuse(6, h)
+}
+
+// The same of a call that only reads.
+pub fn look_at(h: Head) -> Change
+    ensures { λ r. ⌜ r ≡ changed Look h ⌝ }
+{
+    if range::in_range(h) {
+        return look(h);
+    }
+    refuse(6, h)
 }
