@@ -3,8 +3,8 @@
 // Makes a call and prints its result. `table` is the client's, and `kept` keeps the responder's store.
 pub(crate) fn run(call: usize, row: &[u8], line: &[u8], table: &mut [u8], kept: &mut [u8]) {
     match call {
-        7 | 8 | 9 | 10 | 11 | 12 => changes::run(call, row, line, table),
-        15 | 16 | 17 | 18 => actions::run(call, row, line, kept),
+        7..=12 => changes::run(call, row, line, table),
+        15..=18 => actions::run(call, row, line, kept),
         rows::NONE => {}
         _ => queries::run(call, row, line, table),
     }
