@@ -7,7 +7,7 @@ use lib.ListN.{length, take, drop}
 use Rattle.octets.specs.Number.{getAt, putAt}
 use Rattle.octets.specs.Part.{copyAt}
 use Rattle.text.specs.Line.{numberAt, bitsAt, octetsAt}
-use Rattle.store.specs.Row.{cleared, reporting}
+use Rattle.store_rules.specs.Row.{cleared, reporting}
 use Rattle.responder_rules.specs.Answer.{answerOf}
 use Rattle.actions.specs.Given.{givenOf}
 

@@ -4,7 +4,7 @@ use c_structs::answers::Written;
 use header::ServerCookie;
 use responder::Server;
 ghost use mathlib.Core.Path.{_≡_};
-ghost use Rattle.store.specs.Row.{cleared, reporting};
+ghost use Rattle.store_rules.specs.Row.{cleared, reporting};
 ghost use Rattle.responder_rules.specs.Answer.{answerOf};
 ghost use Rattle.c_structs.specs.Numbers.{outcomeNumbers};
 

@@ -10,11 +10,11 @@ use lib.ListN.{length, getD, set, take, drop, List·getD-eq-default}
 use lib.Seq.{split-at, set-at, length-take-le}
 use Rattle.octets.specs.Number.{Octets, num, octets, getAt, putAt}
 use Rattle.octets.proofs.Written.{both-octets, number-octets}
-use Rattle.store.specs.Row.{Record, usedOf, rowOctets, recordsFrom, recordsOf, sizeOf, rowOf, wrongSize, wrongStore}
-use Rattle.store.specs.Place.{indexOf, placeOf}
-use Rattle.store.proofs.Rows.{or-false}
-use Rattle.store.proofs.Written.{AllFit, length-row, records-read}
-use Rattle.store.proofs.Places.{put-cookie}
+use Rattle.store_rules.specs.Row.{Record, usedOf, rowOctets, recordsFrom, recordsOf, sizeOf, rowOf, wrongSize, wrongStore}
+use Rattle.store_rules.specs.Place.{indexOf, placeOf}
+use Rattle.store_rules.proofs.Rows.{or-false}
+use Rattle.store_rules.proofs.Written.{AllFit, length-row, records-read}
+use Rattle.store_rules.proofs.Places.{put-cookie}
 use Rattle.records.specs.Records.{vacant, wrongCount, wrongRecords}
 use Rattle.records.specs.Same.{Fit}
 use Rattle.records.proofs.Joining.{withCookie}

@@ -9,9 +9,9 @@ use borrow.Author.Tests.{ltb-true}
 use lib.Dec.{eqb, ltb}
 use lib.ListN.{length, getD, set}
 use lib.Seq.{set-out}
-use Rattle.store.specs.Row.{Record, held}
-use Rattle.store.specs.Place.{indexOf}
-use Rattle.store.proofs.Rows.{or-none, held-index, index-past}
+use Rattle.store_rules.specs.Row.{Record, held}
+use Rattle.store_rules.specs.Place.{indexOf}
+use Rattle.store_rules.proofs.Rows.{or-none, held-index, index-past}
 use Rattle.records.specs.Records.{vacant, leaveRecords, seated, joinRecords}
 use Rattle.records.specs.Value.{seatBy, seatFor}
 use Rattle.records.proofs.Slots.{placeFrom}

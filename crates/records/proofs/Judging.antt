@@ -7,9 +7,9 @@ use native.Mathlib.Omega.{arith}
 use borrow.Author.Tests.{ltb-true, ltb-false, lt-ltb, le-ltb}
 use lib.Dec.{eqb, ltb}
 use lib.ListN.{length, getD, drop, length-drop, drop-of-length-le}
-use Rattle.store.specs.Row.{Record, held, allUnused, soundRecords}
-use Rattle.store.specs.Place.{indexOf}
-use Rattle.store.proofs.Rows.{or-false, held-index}
+use Rattle.store_rules.specs.Row.{Record, held, allUnused, soundRecords}
+use Rattle.store_rules.specs.Place.{indexOf}
+use Rattle.store_rules.proofs.Rows.{or-false, held-index}
 use Rattle.records.specs.Records.{recordOf, recordsIn, wrongCount, wrongRecords}
 use Rattle.records.specs.Value.{seenAfter}
 use Rattle.records.specs.declared.Record.{Record as Slot}

@@ -9,7 +9,7 @@ use borrow.Author.Tests.{ltb-true, ltb-false}
 use lib.Dec.{ltb}
 use lib.ListN.{length, getD, set, take, drop, replicate, length-append, length-take, length-drop, length-replicate, drop-of-length-le, List·getD-append, replicate-append-replicate}
 use lib.Seq.{take-suc, take-all, set-at, getD-take, length-take-le}
-use Rattle.store.specs.Row.{Record}
+use Rattle.store_rules.specs.Row.{Record}
 use Rattle.records.specs.Records.{vacant, wrongCount, clearRecords, leaveRecords}
 use Rattle.records.proofs.Slots.{next-in}
 

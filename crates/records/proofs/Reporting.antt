@@ -8,9 +8,9 @@ use borrow.Author.Tests.{eqb-true, eqb-false, lt-ltb, le-ltb}
 use lib.Dec.{eqb}
 use lib.ListN.{length, getD, set}
 use lib.Seq.{getD-at, set-at, set-getD}
-use Rattle.store.specs.Row.{Record, held, timeOf, reported, usedOf}
-use Rattle.store.specs.Place.{indexOf}
-use Rattle.store.proofs.Rows.{or-none, Parted, part-row, held-index}
+use Rattle.store_rules.specs.Row.{Record, held, timeOf, reported, usedOf}
+use Rattle.store_rules.specs.Place.{indexOf}
+use Rattle.store_rules.proofs.Rows.{or-none, Parted, part-row, held-index}
 use Rattle.records.specs.Records.{recordOf, recordsIn, vacant, wrongRecords, reportRecords}
 use Rattle.records.specs.Value.{reportedOne, absentRefusal}
 use Rattle.records.specs.declared.Record.{Record as Slot}

@@ -8,12 +8,12 @@ use borrow.Author.Tests.{eqb-true, eqb-false}
 use lib.Dec.{eqb}
 use lib.ListN.{length, getD, take, drop, replicate}
 use Rattle.octets.specs.Number.{putAt}
-use Rattle.store.specs.Row.{Record, held, timeOf, reported, without, joined, usedOf, rowOctets, storeOctets, rowOf, wrongStore}
-use Rattle.store.specs.Place.{indexOf, placeOf, removed, joinedOctets}
-use Rattle.store.proofs.Rows.{held-index}
-use Rattle.store.proofs.Stores.{Stores, store-read, stores-right, stores-row}
-use Rattle.store.proofs.Steps.{stores-removed, stores-reported, stores-joined}
-use Rattle.store.proofs.Changed.{place-reported}
+use Rattle.store_rules.specs.Row.{Record, held, timeOf, reported, without, joined, usedOf, rowOctets, storeOctets, rowOf, wrongStore}
+use Rattle.store_rules.specs.Place.{indexOf, placeOf, removed, joinedOctets}
+use Rattle.store_rules.proofs.Rows.{held-index}
+use Rattle.store_rules.proofs.Stores.{Stores, store-read, stores-right, stores-row}
+use Rattle.store_rules.proofs.Steps.{stores-removed, stores-reported, stores-joined}
+use Rattle.store_rules.proofs.Changed.{place-reported}
 use Rattle.records.specs.Records.{recordsIn, vacant, wrongCount, wrongRecords, clearRecords, reportRefusal, reportRecords, leaveRecords, seated, joinRecords}
 use Rattle.records.specs.Same.{Fit, Call, clear, wrong, find, time, report, leave, join, onRecords, onOctets, answers, after, Typed, AllTyped, SameCalls, Same, Holds, ByRow}
 use Rattle.records.proofs.Sounds.{held-row, time-row, right-sound}

@@ -11,14 +11,14 @@ use lib.Dec.{eqb, ltb}
 use lib.ListN.{length, getD, take, drop, replicate}
 use lib.Seq.{split-at, drop-append-le, length-take-le}
 use Rattle.octets.specs.Number.{putAt}
-use Rattle.store.specs.Row.{Record, held, timeOf, reported, usedOf, rowOctets, storeOctets, recordsFrom, sizeOf, cleared, reporting}
-use Rattle.store.specs.Place.{indexOf, placeOf, removed, joinedOctets}
-use Rattle.store.proofs.Rows.{unusedRow, held-index}
-use Rattle.store.proofs.Written.{length-row, store-row}
-use Rattle.store.proofs.Stores.{store-read}
-use Rattle.store.proofs.Places.{remove-record}
-use Rattle.store.proofs.Kept.{length-reported}
-use Rattle.store.proofs.Changed.{join-free as octets-free, join-full as octets-full}
+use Rattle.store_rules.specs.Row.{Record, held, timeOf, reported, usedOf, rowOctets, storeOctets, recordsFrom, sizeOf, cleared, reporting}
+use Rattle.store_rules.specs.Place.{indexOf, placeOf, removed, joinedOctets}
+use Rattle.store_rules.proofs.Rows.{unusedRow, held-index}
+use Rattle.store_rules.proofs.Written.{length-row, store-row}
+use Rattle.store_rules.proofs.Stores.{store-read}
+use Rattle.store_rules.proofs.Places.{remove-record}
+use Rattle.store_rules.proofs.Kept.{length-reported}
+use Rattle.store_rules.proofs.Changed.{join-free as octets-free, join-full as octets-full}
 use Rattle.records.specs.Records.{vacant, wrongCount, wrongRecords, clearRecords, reportRefusal, reportRecords, leaveRecords, seated, joinRecords}
 use Rattle.records.specs.Same.{Fit, Call, clear, wrong, find, time, report, leave, join, onRecords, onOctets}
 use Rattle.records.proofs.Moves.{length-leave, leave-past}

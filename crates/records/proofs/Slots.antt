@@ -9,8 +9,8 @@ use native.Mathlib.Omega.{arith}
 use lib.Dec.{eqb}
 use lib.ListN.{length, getD, set, drop, length-map, List·getD-map, drop-of-length-le}
 use lib.Seq.{drop-cons}
-use Rattle.store.specs.Row.{Record}
-use Rattle.store.specs.Place.{indexOf}
+use Rattle.store_rules.specs.Row.{Record}
+use Rattle.store_rules.specs.Place.{indexOf}
 use Rattle.records.specs.Records.{recordOf, recordsIn, vacant}
 use Rattle.records.specs.declared.Record.{Record as Slot}
 

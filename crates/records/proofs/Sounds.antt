@@ -6,8 +6,8 @@ use Prim.Native.Nat.{ℕ}
 use borrow.Author.Tests.{eqb-true, ne-eqb, not-true, not-false}
 use lib.Dec.{eqb}
 use lib.ListN.{length}
-use Rattle.store.specs.Row.{Record, held, timeOf, unused, allUnused, usedOf, soundRecords}
-use Rattle.store.proofs.Rows.{or-false, or-none, held-append, time-append}
+use Rattle.store_rules.specs.Row.{Record, held, timeOf, unused, allUnused, usedOf, soundRecords}
+use Rattle.store_rules.proofs.Rows.{or-false, or-none, held-append, time-append}
 use Rattle.records.specs.Records.{wrongCount, wrongRecords}
 
 -- an unused record has cookie 0 and time 0

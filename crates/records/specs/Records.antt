@@ -5,7 +5,7 @@ use mathlib.Core.List.{List, [], _∷_, _++_, map}
 use Prim.Native.Nat.{ℕ, _+_}
 use lib.Dec.{eqb, ltb}
 use lib.ListN.{length, take, drop, replicate}
-use Rattle.store.specs.Row.{Record, held, reported, usedOf, soundRecords, refusedReport}
+use Rattle.store_rules.specs.Row.{Record, held, reported, usedOf, soundRecords, refusedReport}
 use Rattle.records.specs.declared.Record.{Record as Slot}
 
 -- ---- the one conversion: a record of a slice is a record of the row

@@ -6,8 +6,8 @@ use Prim.Native.Nat.{ℕ, _+_, _*_, _/_, _<_, _^_}
 use lib.Dec.{ltb}
 use lib.ListN.{length, getD}
 use Rattle.octets.specs.Number.{getAt}
-use Rattle.store.specs.Row.{Record, held, timeOf, reported, without, joined, usedOf, rowOctets, rowOf, wrongStore, cleared, reporting}
-use Rattle.store.specs.Place.{indexOf, placeOf, removed, joinedOctets}
+use Rattle.store_rules.specs.Row.{Record, held, timeOf, reported, without, joined, usedOf, rowOctets, rowOf, wrongStore, cleared, reporting}
+use Rattle.store_rules.specs.Place.{indexOf, placeOf, removed, joinedOctets}
 use Rattle.records.specs.Records.{recordsIn, vacant, wrongRecords, clearRecords, reportRecords, leaveRecords, joinRecords}
 use Rattle.records.specs.declared.Record.{Record as Slot}
 

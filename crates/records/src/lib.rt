@@ -6,7 +6,7 @@ use value::Seen;
 ghost use mathlib.Core.Path.{_≡_};
 ghost use Prim.Native.Nat.{_+_};
 ghost use lib.ListN.{drop, getD};
-ghost use Rattle.store.specs.Place.{indexOf};
+ghost use Rattle.store_rules.specs.Place.{indexOf};
 ghost use Rattle.records.specs.Records.{recordsIn, vacant, wrongRecords, clearRecords, reportRecords, leaveRecords, joinRecords};
 
 // An unused record has cookie 0 and time 0; a used one has time 0 until it is reported.

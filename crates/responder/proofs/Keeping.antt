@@ -9,12 +9,12 @@ use lib.Dec.{eqb, ltb}
 use lib.ListN.{length}
 use Rattle.octets.specs.Number.{Octets, getAt}
 use Rattle.header.specs.declared.Header.{Header}
-use Rattle.store.specs.Row.{Record, held, timeOf, without, storeOctets, sizeOf, rowOf, wrongStore}
-use Rattle.store.specs.Place.{placeOf, removed, joinedOctets}
-use Rattle.store.proofs.Rows.{time-held}
-use Rattle.store.proofs.Stores.{Stores, store-read, store-written}
-use Rattle.store.proofs.Changed.{place-held, place-time, place-removed, place-joined, place-most as ends}
-use Rattle.store.proofs.Kept.{length-without, sound-without}
+use Rattle.store_rules.specs.Row.{Record, held, timeOf, without, storeOctets, sizeOf, rowOf, wrongStore}
+use Rattle.store_rules.specs.Place.{placeOf, removed, joinedOctets}
+use Rattle.store_rules.proofs.Rows.{time-held}
+use Rattle.store_rules.proofs.Stores.{Stores, store-read, store-written}
+use Rattle.store_rules.proofs.Changed.{place-held, place-time, place-removed, place-joined, place-most as ends}
+use Rattle.store_rules.proofs.Kept.{length-without, sound-without}
 use Rattle.responder_rules.specs.Answer.{wantsInterleaved, savedTime, rowAfter}
 
 module _ (s : List ℕ) (o : Octets s) (right : wrongStore s ≡ false) where

@@ -14,7 +14,7 @@ ghost use lib.ListN.{length};
 ghost use Rattle.header.specs.Header.{octetsOf};
 ghost use Rattle.chain.specs.Chain.{soundRefusal};
 ghost use Rattle.chain.specs.Content.{chainOctets};
-ghost use Rattle.store.specs.Row.{wrongStore};
+ghost use Rattle.store_rules.specs.Row.{wrongStore};
 ghost use Rattle.responder_rules.specs.Answer.{answerFields, wrongArguments, outcome, answerOf};
 
 // Refusal 6, then 1 to 5, or 0.
@@ -30,7 +30,7 @@ fn check(
     ensures { λ r. ⌜ r ≡ cond (wrongStore (now (store .entry)) || wrongArguments (now (filter .entry)) (now (information .entry)) leap receive estimate) 6
         (soundRefusal (now (request .entry)) 3) ⌝ }
 {
-    if store::check::wrong(store) {
+    if store_check::wrong(store) {
         return 6;
     }
     if (filter.len() != 512)

@@ -3,11 +3,10 @@ use answer_header::wants_interleaved;
 use header::Header;
 use header::ServerCookie;
 use octets::number;
-use store::row;
 ghost use mathlib.Core.Path.{_≡_};
 ghost use mathlib.Core.Bool.{false, cond};
 ghost use lib.Dec.{eqb};
-ghost use Rattle.store.specs.Row.{timeOf, without, sizeOf, rowOf, wrongStore, storeOctets};
+ghost use Rattle.store_rules.specs.Row.{timeOf, without, sizeOf, rowOf, wrongStore, storeOctets};
 ghost use Rattle.responder_rules.specs.Answer.{savedTime, wrongFresh, rowAfter};
 
 // Refusal 8: a fresh cookie is needed, and it is 0 or in the store.
@@ -16,7 +15,7 @@ pub(crate) fn wrong_fresh(store: &[u8], asked: Header, fresh: ServerCookie) -> b
     ensures { λ r. ⌜ r ≡ wrongFresh asked (fresh .0) (rowOf (now (store .entry))) ⌝ }
 {
     if wants_interleaved(asked) {
-        let at = row::find(store, fresh);
+        let at = store_row::find(store, fresh);
         return (fresh.0 == 0) | (at < store.len());
     }
     false
@@ -28,7 +27,7 @@ pub(crate) fn time(store: &[u8], asked: Header) -> u64
     ensures { λ r. ⌜ r ≡ savedTime asked (rowOf (now (store .entry))) ⌝ }
 {
     if wants_interleaved(asked) {
-        let at = row::find(store, asked.server_cookie);
+        let at = store_row::find(store, asked.server_cookie);
         return number::get64(store, at + 8);
     }
     0
@@ -43,8 +42,8 @@ fn leave(store: &mut [u8], cookie: ServerCookie, time: u64)
     if time == 0 {
         return;
     }
-    let at = row::find(store, cookie);
-    row::remove(store, at);
+    let at = store_row::find(store, cookie);
+    store_row::remove(store, at);
 }
 
 // What an answer leaves: the record whose time was sent goes, and then the fresh cookie joins.
@@ -55,6 +54,6 @@ pub(crate) fn keep(store: &mut [u8], asked: Header, fresh: ServerCookie, time: u
 {
     if wants_interleaved(asked) {
         leave(store, asked.server_cookie, time);
-        row::join(store, fresh);
+        store_row::join(store, fresh);
     }
 }

@@ -8,8 +8,8 @@ use borrow.Author.Tests.{ltb-false, eq-eqb, eqb-true, ne-eqb, not-false}
 use lib.Dec.{eqb}
 use lib.ListN.{length, drop}
 use Rattle.chain.specs.Chain.{soundRefusal}
-use Rattle.store.specs.Row.{rowOf, storeOctets, sizeOf, wrongStore}
-use Rattle.store.proofs.Rows.{or-none}
+use Rattle.store_rules.specs.Row.{rowOf, storeOctets, sizeOf, wrongStore}
+use Rattle.store_rules.proofs.Rows.{or-none}
 use Rattle.responder_rules.specs.Answer.{Given, Outcome, wrongArguments, wrongFresh, answerRefusal, answerOctets, answerOf, rowAfter, asking}
 use Rattle.responder_rules.specs.Claim.{Accepted, InRange, AnswerClaim}
 use Rattle.responder_rules.proofs.Answers.{answer-claim}

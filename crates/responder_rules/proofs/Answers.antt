@@ -20,7 +20,7 @@ use Rattle.chain.specs.declared.role.Role.the-variants.{FilterRequest}
 use Rattle.chain.proofs.Datagrams.{header-passes, sound-datagram}
 use Rattle.chain.proofs.Roles.{Suits, suits}
 use Rattle.chain.proofs.Contents.{AllFit, fit-append, chain-fours, length-chain-append, fields-written, chain-written, contents-written}
-use Rattle.store.specs.Row.{Record, timeOf}
+use Rattle.store_rules.specs.Row.{Record, timeOf}
 use Rattle.responder_rules.specs.Answer.{Given, wantsInterleaved, savedTime, sentHeader, answersTo, paddingOf, answerFields, answerOctets, asking, sentFields}
 use Rattle.responder_rules.specs.Claim.{Accepted, InRange, AnswerClaim}
 use Rattle.responder_rules.proofs.Room.{answers-fit, all-fit, padding-size, padding-fits, response-length}

@@ -7,11 +7,11 @@ use native.Mathlib.Omega.{arith}
 use borrow.Author.Tests.{ne-eqb, eqb-false}
 use lib.Dec.{eqb, lit<}
 use lib.ListN.{length, drop}
-use Rattle.store.specs.Row.{Record, held, timeOf, without, joined, storeOctets}
-use Rattle.store.proofs.Rows.{SoundRow, or-none}
-use Rattle.store.proofs.Stores.{Stores, store-written, stores-row, stores-size}
-use Rattle.store.proofs.Kept.{length-without, sound-without, without-absent}
-use Rattle.store.proofs.Joins.{length-joined, sound-joined}
+use Rattle.store_rules.specs.Row.{Record, held, timeOf, without, joined, storeOctets}
+use Rattle.store_rules.proofs.Rows.{SoundRow, or-none}
+use Rattle.store_rules.proofs.Stores.{Stores, store-written, stores-row, stores-size}
+use Rattle.store_rules.proofs.Kept.{length-without, sound-without, without-absent}
+use Rattle.store_rules.proofs.Joins.{length-joined, sound-joined}
 use Rattle.responder_rules.specs.Answer.{Given, asking, wantsInterleaved, savedTime, wrongFresh, answerOctets, rowAfter, answerRefusal, answerOf}
 use Rattle.responder_rules.specs.Claim.{InRange}
 use Rattle.responder_rules.specs.Once.{askedCookie}

@@ -5,10 +5,10 @@ use mathlib.Core.List.{List, [], _∷_}
 use Prim.Native.Nat.{ℕ}
 use borrow.Author.Tests.{eqb-true, eqb-false}
 use lib.Dec.{eqb}
-use Rattle.store.specs.Row.{Record, held, timeOf, reported, without, joined}
-use Rattle.store.proofs.Rows.{SoundRow, time-absent, time-held}
-use Rattle.store.proofs.Kept.{time-without, without-gone, time-reported, time-reported-other}
-use Rattle.store.proofs.Joins.{time-joined, time-joined-fresh}
+use Rattle.store_rules.specs.Row.{Record, held, timeOf, reported, without, joined}
+use Rattle.store_rules.proofs.Rows.{SoundRow, time-absent, time-held}
+use Rattle.store_rules.proofs.Kept.{time-without, without-gone, time-reported, time-reported-other}
+use Rattle.store_rules.proofs.Joins.{time-joined, time-joined-fresh}
 
 -- each time that is reported in the row is the one that is owed to its cookie
 pub record Owes (owed row : List Record) : Type 0 where

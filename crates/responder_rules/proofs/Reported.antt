@@ -6,10 +6,10 @@ use Prim.Native.Nat.{ℕ, _<_, _^_}
 use native.Mathlib.Omega.{arith}
 use borrow.Author.Tests.{ne-eqb, not-false}
 use lib.Dec.{eqb}
-use Rattle.store.specs.Row.{Record, held, timeOf, reported, storeOctets, sizeOf, rowOf, wrongSize, wrongStore, cleared, reportRefusal, reporting}
-use Rattle.store.proofs.Rows.{or-none}
-use Rattle.store.proofs.Stores.{Stores, right-size, store-written, stores-row, stores-size}
-use Rattle.store.proofs.Kept.{length-reported, sound-reported}
+use Rattle.store_rules.specs.Row.{Record, held, timeOf, reported, storeOctets, sizeOf, rowOf, wrongSize, wrongStore, cleared, reportRefusal, reporting}
+use Rattle.store_rules.proofs.Rows.{or-none}
+use Rattle.store_rules.proofs.Stores.{Stores, right-size, store-written, stores-row, stores-size}
+use Rattle.store_rules.proofs.Kept.{length-reported, sound-reported}
 use Rattle.responder_rules.proofs.Accepting.{not-given}
 
 -- ---- a clear

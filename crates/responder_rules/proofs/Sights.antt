@@ -9,11 +9,11 @@ use native.Mathlib.Omega.{arith}
 use borrow.Author.Tests.{eq-eqb, ne-eqb, eqb-true, eqb-false}
 use lib.Dec.{eqb}
 use Rattle.header.specs.Header.{headerOf, interleavedFlag}
-use Rattle.store.specs.Row.{Record, held, without, joined, rowOf}
-use Rattle.store.proofs.Rows.{SoundRow, time-held}
-use Rattle.store.proofs.Stores.{Stores, stores-row}
-use Rattle.store.proofs.Kept.{without-gone}
-use Rattle.store.proofs.Joins.{held-joined}
+use Rattle.store_rules.specs.Row.{Record, held, without, joined, rowOf}
+use Rattle.store_rules.proofs.Rows.{SoundRow, time-held}
+use Rattle.store_rules.proofs.Stores.{Stores, stores-row}
+use Rattle.store_rules.proofs.Kept.{without-gone}
+use Rattle.store_rules.proofs.Joins.{held-joined}
 use Rattle.responder_rules.specs.Answer.{Given, Outcome, asking, savedTime, sentHeader, answerRefusal, answerOf}
 use Rattle.responder_rules.specs.Claim.{InRange}
 use Rattle.responder_rules.specs.Once.{askedCookie, interleaved}

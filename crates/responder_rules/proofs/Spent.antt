@@ -5,10 +5,10 @@ use mathlib.Core.List.{List, [], _∷_}
 use Prim.Native.Nat.{ℕ, _<_, _^_}
 use borrow.Author.Tests.{eq-eqb, ne-eqb, eqb-true, eqb-false}
 use lib.Dec.{eqb}
-use Rattle.store.specs.Row.{Record, held, timeOf, reported, without, joined, wrongSize, wrongStore, cleared, reportRefusal}
-use Rattle.store.proofs.Rows.{or-none, time-held}
-use Rattle.store.proofs.Stores.{Stores, stores-right, stores-row, stores-size}
-use Rattle.store.proofs.Kept.{sound-without, without-gone, without-absent}
+use Rattle.store_rules.specs.Row.{Record, held, timeOf, reported, without, joined, wrongSize, wrongStore, cleared, reportRefusal}
+use Rattle.store_rules.proofs.Rows.{or-none, time-held}
+use Rattle.store_rules.proofs.Stores.{Stores, stores-right, stores-row, stores-size}
+use Rattle.store_rules.proofs.Kept.{sound-without, without-gone, without-absent}
 use Rattle.responder_rules.specs.Answer.{Given, asking, wantsInterleaved, savedTime, rowAfter, answerRefusal, answerOf}
 use Rattle.responder_rules.specs.Claim.{InRange}
 use Rattle.responder_rules.specs.Once.{Call, clear, report, answer, Typed, AllTyped, step, reached, askedCookie, Event, reports, sends, eventOf, events, balanced, Right, Once}

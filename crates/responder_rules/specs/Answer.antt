@@ -13,7 +13,7 @@ use Rattle.chain.specs.Role.{roleOf}
 use Rattle.chain.specs.declared.cursor.Field.{Field}
 use Rattle.chain.specs.declared.role.Role.{Role}
 use Rattle.chain.specs.declared.role.Role.the-variants.{FilterRequest, Information, DraftName, Unknown}
-use Rattle.store.specs.Row.{Record, held, timeOf, without, joined, storeOctets, sizeOf, rowOf, wrongStore}
+use Rattle.store_rules.specs.Row.{Record, held, timeOf, without, joined, storeOctets, sizeOf, rowOf, wrongStore}
 use Rattle.responder_rules.specs.declared.Server.{Server}
 use Rattle.responder_rules.specs.declared.Answered.{Answered}
 use Rattle.responder_rules.specs.declared.Answered.the-variants.{Written, Refused}

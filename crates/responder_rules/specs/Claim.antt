@@ -13,7 +13,7 @@ use Rattle.chain.specs.Content.{placed, contentsOf}
 use Rattle.chain.specs.Role.{roleOf}
 use Rattle.chain.specs.declared.cursor.Field.{Field}
 use Rattle.chain.specs.declared.role.Role.the-variants.{FilterRequest}
-use Rattle.store.specs.Row.{Record, timeOf}
+use Rattle.store_rules.specs.Row.{Record, timeOf}
 use Rattle.responder_rules.specs.Answer.{Given, sentHeader, answerOctets, sentFields}
 
 -- none of refusals 1 to 5 applies to the request, and the filter, the server information and the leap are not refused by 6

@@ -6,7 +6,7 @@ use Prim.Native.Nat.{ℕ, _<_, _≤_, _^_}
 use lib.Dec.{eqb}
 use lib.ListN.{length}
 use Rattle.header.specs.Header.{headerOf, interleavedFlag}
-use Rattle.store.specs.Row.{Record, held, timeOf, without, sizeOf, rowOf, wrongSize, wrongStore, cleared, reporting}
+use Rattle.store_rules.specs.Row.{Record, held, timeOf, without, sizeOf, rowOf, wrongSize, wrongStore, cleared, reporting}
 use Rattle.responder_rules.specs.Answer.{Given, asking, Outcome, answerOf}
 use Rattle.responder_rules.specs.Claim.{InRange}
 

@@ -1,17 +1,14 @@
 // The responder's saved timestamps, on lent octets: a row of 1 to 64 records of 16 octets, a server cookie and its transmit time.
-pub mod check;
-pub mod row;
-
 use header::ServerCookie;
 use octets::number;
 use octets::part;
 ghost use mathlib.Core.Path.{_≡_};
-ghost use Rattle.store.specs.Row.{cleared, reporting};
+ghost use Rattle.store_rules.specs.Row.{cleared, reporting};
 
 pub fn clear(store: &mut [u8]) -> u8
     ensures { λ r. ⌜ (r, now (store .exit)) ≡ cleared (now (store .entry)) ⌝ }
 {
-    if check::wrong_size(store) {
+    if store_check::wrong_size(store) {
         return 6;
     }
     let n = store.len();
@@ -23,7 +20,7 @@ pub fn clear(store: &mut [u8]) -> u8
 pub fn report(store: &mut [u8], cookie: ServerCookie, time: u64) -> u8
     ensures { λ r. ⌜ (r, now (store .exit)) ≡ reporting (now (store .entry)) (cookie .0) time ⌝ }
 {
-    if check::wrong(store) {
+    if store_check::wrong(store) {
         return 6;
     }
     if time == 0 {
@@ -33,7 +30,7 @@ pub fn report(store: &mut [u8], cookie: ServerCookie, time: u64) -> u8
     if cookie.0 == 0 {
         return 12;
     }
-    let at = row::find(store, cookie);
+    let at = store_row::find(store, cookie);
     if at >= store.len() {
         return 12;
     }

@@ -26,7 +26,7 @@ use Rattle.client_rules.proofs.Simulate.{at-in}
 use Rattle.client_rules.proofs.Pasted.{within}
 use Rattle.client_rules.proofs.Demand3.{simulates, good-reached, call-reached, octet-at}
 use Rattle.client_rules.proofs.Demand2.{accepts}
-use Rattle.store.specs.Row.{rowOf}
+use Rattle.store_rules.specs.Row.{rowOf}
 use Rattle.responder_rules.specs.Answer.{Given, answerRefusal, answerOctets, answerOf}
 use Rattle.responder_rules.proofs.Accepting.{answer-accepted, answer-written, answer-number, answer-given}
 use Rattle.responder_rules.proofs.Room.{response-length}

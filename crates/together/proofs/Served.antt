@@ -28,10 +28,10 @@ use Rattle.exchange.specs.declared.request.Asked.{Asked}
 use Rattle.exchange.proofs.Polls.{poll-header-read}
 use Rattle.exchange.proofs.Responses.{response-accepted}
 use Rattle.association.specs.Plain.{chunkOf}
-use Rattle.store.specs.Row.{Record, timeOf, rowOf}
-use Rattle.store.proofs.Rows.{SoundRow, time-absent}
-use Rattle.store.proofs.Changed.{held-zero}
-use Rattle.store.proofs.Stores.{store-read}
+use Rattle.store_rules.specs.Row.{Record, timeOf, rowOf}
+use Rattle.store_rules.proofs.Rows.{SoundRow, time-absent}
+use Rattle.store_rules.proofs.Changed.{held-zero}
+use Rattle.store_rules.proofs.Stores.{store-read}
 use Rattle.responder_rules.specs.Answer.{Given, asking, wantsInterleaved, savedTime, sentHeader, sentFields, answerFields, answerRefusal, answerOctets}
 use Rattle.responder_rules.specs.Claim.{InRange, AnswerClaim}
 use Rattle.responder_rules.proofs.Accepting.{answer-accepted, answer-stored, answer-given}

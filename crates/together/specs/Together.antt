@@ -11,7 +11,7 @@ use Rattle.order.specs.Order.{TaggedCall, EveryCall}
 use Rattle.client_rules.specs.Call.{Call, clearTable, openOne, closeOne, poll, sent, receive, loopVerdict, publish, Typed, Answer}
 use Rattle.client_rules.specs.Octets.{tableOctets, stepOctets}
 use Rattle.client_rules.specs.Claim.{reached}
-use Rattle.store.specs.Row.{rowOf}
+use Rattle.store_rules.specs.Row.{rowOf}
 use Rattle.responder_rules.specs.Answer.{Given, Outcome, answerOf}
 use Rattle.responder_rules.specs.Claim.{InRange}
 

@@ -42,7 +42,7 @@ use denote.Exit.{yes}
 use Rattle.header.specs.declared.ServerCookie.{ServerCookie}
 use Rattle.header.proofs.ServerCookie as Ck
 use Rattle.header.proofs.ServerCookie.Laws as Ck′
-use Rattle.store.specs.Row.{Record}
+use Rattle.store_rules.specs.Row.{Record}
 use Rattle.records.specs.Records.{recordOf, recordsIn, leaveRecords, joinRecords}
 use Rattle.records.specs.Value.{seatFor}
 use Rattle.records.specs.declared.Record.{Record as Slot}

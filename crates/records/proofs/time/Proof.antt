@@ -35,7 +35,7 @@ use denote.Triple.Spec.{Meets, tripleOf}
 use denote.Triple.Table.{entered}
 use denote.Triple.Walked.{says, Stays, stay-none-slice, stay-none, walkOf, goes-none-slice, goes-none, Walks, ends-at, walked, walk-meets}
 use denote.Exit.{yes}
-use Rattle.store.specs.Row.{Record}
+use Rattle.store_rules.specs.Row.{Record}
 use Rattle.records.specs.Records.{recordsIn, vacant}
 use Rattle.records.specs.declared.Record.{Record as Slot}
 use Rattle.records.proofs.Record as T

@@ -7,7 +7,7 @@ use Rattle.chain.specs.Chain.{soundRefusal}
 use Rattle.chain.proofs.Datagrams.{header-read, not-refused}
 use Rattle.header.specs.Header.{headerOf}
 use Rattle.header.specs.declared.Header.{Header}
-use Rattle.store.specs.Row.{rowOf, sizeOf, storeOctets}
+use Rattle.store_rules.specs.Row.{rowOf, sizeOf, storeOctets}
 use Rattle.responder_rules.specs.Answer.{Given, asking, wrongFresh, rowAfter}
 use Rattle.responder.proofs.Writing.{request-size}
 use Rattle.responder.proofs.Deciding.{first, refused-first, right-store, sound-request, refused-fresh, refused-room, given-accepted, answered, lent-size, lent-back, octets-sent}

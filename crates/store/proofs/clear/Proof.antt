@@ -3,9 +3,9 @@ use mathlib.Core.Path.{sym, ap, _∙_}
 use Prim.Native.Nat.{ℕ}
 use mathlib.Core.List.{List}
 use borrow.Author.Needs.{needs}
-use Rattle.store.specs.Row.{cleared}
-use Rattle.store.proofs.Stores.{right-size}
-use Rattle.store.proofs.Shifts.{clear-all}
+use Rattle.store_rules.specs.Row.{cleared}
+use Rattle.store_rules.proofs.Stores.{right-size}
+use Rattle.store_rules.proofs.Shifts.{clear-all}
 use Rattle.store.proofs.clear.Statement.{statement}
 use Rattle.store.proofs.clear.Tie as tie
 

@@ -5,7 +5,7 @@ use Prim.Native.Nat.{ℕ}
 use native.Mathlib.Omega.{arith}
 use borrow.Author.Needs.{needs}
 use Rattle.octets.specs.Number.{Octets}
-use Rattle.store.proofs.Reports.{report-wrong, report-no-time, report-no-cookie, report-absent, report-again, report-done}
+use Rattle.store_rules.proofs.Reports.{report-wrong, report-no-time, report-no-cookie, report-absent, report-again, report-done}
 use Rattle.store.proofs.report.Statement.{statement}
 use Rattle.store.proofs.report.Tie as tie
 

@@ -2,7 +2,7 @@
 use mathlib.Core.Path.{ap, _∙_}
 use native.Mathlib.Omega.{arith}
 use Rattle.octets.specs.Number.{Octets}
-use Rattle.store.specs.Place.{removed}
+use Rattle.store_rules.specs.Place.{removed}
 use Rattle.responder.proofs.Keeping.{leave-none, leave-done}
 use borrow.Author.Needs.{needs}
 use Rattle.responder.proofs.saved.leave.Statement.{statement}
