@@ -15,13 +15,13 @@ use lib.ListN.{length, getD, drop, replicate, getD-replicate}
 use lib.Seq.{paste, getD-take, getD-drop}
 use Rattle.octets.specs.Number.{num, octets}
 use Rattle.octets.proofs.Numbers.{num-left}
-use Rattle.exchange.proofs.Requests.{length-pollOctets}
-use Rattle.exchange.proofs.Polls.{poll-offset}
-use Rattle.exchange.specs.Request.{pollOctets}
+use Rattle.poll_request.proofs.Requests.{length-pollOctets}
+use Rattle.poll_request.proofs.Polls.{poll-offset}
+use Rattle.poll_request.specs.Request.{pollOctets}
 use Rattle.exchange.specs.Response.{responseOf}
 use Rattle.exchange.specs.Judging.{outcomeOf}
 use Rattle.exchange.specs.declared.response.Response.{Response}
-use Rattle.exchange.specs.declared.request.Asked.{Asked}
+use Rattle.poll_request.specs.declared.Asked.{Asked}
 use Rattle.state.specs.Rules.{offered, plainReply}
 use Rattle.association.specs.Plain.{Outstanding, Opened, Place, closed, opened, fresh, polled, reported, received, replyOf, chunkOf, placeDo, isLast, sentCookie}
 use Rattle.association.specs.Encode.{countTaken}

@@ -1,5 +1,5 @@
 // What each event does to the numbers of an association; 6 if one is out of its range.
-use exchange::request::Asked;
+use poll_request::Asked;
 use exchange::response::Response;
 use header::ClientCookie;
 use header::ServerCookie;

@@ -1,6 +1,6 @@
 // What happens to an association, and what the client is told of it.
 use exchange::judging::Times;
-use exchange::request::Asked;
+use poll_request::Asked;
 use exchange::response::Response;
 use header::ClientCookie;
 

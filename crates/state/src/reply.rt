@@ -4,7 +4,7 @@ use crate::head::Change;
 use crate::head::Filling;
 use crate::head::Head;
 use exchange::judging::Times;
-use exchange::request::Asked;
+use poll_request::Asked;
 use header::ServerCookie;
 ghost use mathlib.Core.Path.{_≡_};
 ghost use Rattle.state.specs.Rules.{plainReply};

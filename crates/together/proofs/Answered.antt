@@ -15,10 +15,10 @@ use Rattle.chain.specs.declared.role.Role.the-variants.{FilterRequest, DraftNam
 use Rattle.chain.specs.declared.find.Occurrence.the-variants.{At}
 use Rattle.chain.proofs.Roles.{Good, good-role}
 use Rattle.chain.proofs.Contents.{length-chain-cons, length-chain-one}
-use Rattle.exchange.specs.Request.{pollOctets}
-use Rattle.exchange.specs.declared.request.Asked.{Asked}
-use Rattle.exchange.proofs.Requests.{length-pollOctets}
-use Rattle.exchange.proofs.Polls.{nameField, requestField, poll-fields, poll-offset}
+use Rattle.poll_request.specs.Request.{pollOctets}
+use Rattle.poll_request.specs.declared.Asked.{Asked}
+use Rattle.poll_request.proofs.Requests.{length-pollOctets}
+use Rattle.poll_request.proofs.Polls.{nameField, requestField, poll-fields, poll-offset}
 use Rattle.responder_rules.specs.Answer.{answersTo, answerFields}
 use Rattle.responder_rules.proofs.Room.{response-length}
 

@@ -6,12 +6,12 @@ use native.Mathlib.Omega.{arith}
 use lib.ListN.{length, getD, set, drop}
 use lib.Seq.{take-at, getD-take, getD-drop, getD-set-same, paste}
 use Rattle.octets.proofs.Numbers.{num-left}
-use Rattle.exchange.specs.Request.{pollOctets}
+use Rattle.poll_request.specs.Request.{pollOctets}
 use Rattle.exchange.specs.Response.{responseOf}
 use Rattle.exchange.specs.Judging.{outcomeOf}
-use Rattle.exchange.specs.declared.request.Asked.{Asked}
+use Rattle.poll_request.specs.declared.Asked.{Asked}
 use Rattle.exchange.specs.declared.response.Response.{Response}
-use Rattle.exchange.proofs.Polls.{poll-offset}
+use Rattle.poll_request.proofs.Polls.{poll-offset}
 use Rattle.association.specs.Plain.{Opened, Outstanding, Place, closed, opened, received, replyOf, placeDo}
 use Rattle.association.specs.Encode.{placeFilter}
 use Rattle.state.specs.declared.event.Event.the-variants.{Receive}

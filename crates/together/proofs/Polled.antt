@@ -9,8 +9,8 @@ use lib.Dec.{eqb, ltb}
 use lib.IntN.{ℤ}
 use lib.ListN.{length, getD, set, drop}
 use lib.Seq.{getD-set-same}
-use Rattle.exchange.specs.Request.{pollOctets}
-use Rattle.exchange.specs.declared.request.Asked.{Asked}
+use Rattle.poll_request.specs.Request.{pollOctets}
+use Rattle.poll_request.specs.declared.Asked.{Asked}
 use Rattle.association.specs.Plain.{Opened, Place, closed, opened, polled as polledPlace, placeDo}
 use Rattle.state.specs.declared.event.Event.{Event}
 use Rattle.state.specs.declared.event.Event.the-variants.{Poll}

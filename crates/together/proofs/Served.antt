@@ -21,11 +21,11 @@ use Rattle.chain.specs.declared.find.Occurrence.{Occurrence}
 use Rattle.chain.specs.declared.find.Occurrence.the-variants.{At}
 use Rattle.chain.proofs.Roles.{Good}
 use Rattle.chain.proofs.Contents.{chain-octets, name-octets}
-use Rattle.exchange.specs.Request.{pollHeader, pollOctets}
+use Rattle.poll_request.specs.Request.{pollHeader, pollOctets}
 use Rattle.exchange.specs.Response.{withChunk, responseOf}
 use Rattle.exchange.specs.Judging.{outcomeOf}
-use Rattle.exchange.specs.declared.request.Asked.{Asked}
-use Rattle.exchange.proofs.Polls.{poll-header-read}
+use Rattle.poll_request.specs.declared.Asked.{Asked}
+use Rattle.poll_request.proofs.Polls.{poll-header-read}
 use Rattle.exchange.proofs.Responses.{response-accepted}
 use Rattle.association.specs.Plain.{chunkOf}
 use Rattle.store_rules.specs.Row.{Record, timeOf, rowOf}

@@ -9,7 +9,7 @@ use borrow.Author.Tests.{eqb-true, eqb-false, not-true}
 use lib.Dec.{eqb, ltb}
 use lib.ListN.{length, getD, set}
 use lib.Seq.{getD-set-same}
-use Rattle.exchange.specs.declared.request.Asked.{Asked}
+use Rattle.poll_request.specs.declared.Asked.{Asked}
 use Rattle.state.specs.Rules.{pollReply}
 use Rattle.association.specs.Plain.{Outstanding, Opened, Place, closed, opened, polled, reported, sentCookie, isLast, placeDo}
 use Rattle.state.specs.declared.event.Event.{Event}

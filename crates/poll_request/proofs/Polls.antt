@@ -26,9 +26,9 @@ use Rattle.chain.proofs.Steps.{at-field}
 use Rattle.chain.proofs.Datagrams.{sound-datagram}
 use Rattle.chain.proofs.Walks.{walk-found, walk-ended, chain-from}
 use Rattle.chain.specs.Content.{draftName}
-use Rattle.exchange.specs.Request.{pollHeader, pollOctets}
-use Rattle.exchange.specs.declared.request.Asked.{Asked}
-use Rattle.exchange.proofs.Requests.{length-pollOctets}
+use Rattle.poll_request.specs.Request.{pollHeader, pollOctets}
+use Rattle.poll_request.specs.declared.Asked.{Asked}
+use Rattle.poll_request.proofs.Requests.{length-pollOctets}
 
 -- the whole first poll: timescale 0, poll 6, basic, c = 16
 pub first-poll : pollOctets (record { timescale = 0; chunk = 16; offset = 0; server = record { 0 = 0 } }) 0x0102030405060708 (pos 6) false

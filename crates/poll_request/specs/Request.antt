@@ -9,7 +9,7 @@ use Rattle.octets.specs.Number.{octets}
 use Rattle.header.specs.Header.{octetsOf}
 use Rattle.header.specs.declared.Header.{Header}
 use Rattle.chain.specs.Content.{draftName}
-use Rattle.exchange.specs.declared.request.Asked.{Asked}
+use Rattle.poll_request.specs.declared.Asked.{Asked}
 
 -- all zero but version, mode 3, timescale, poll, flag 0x2 if interleaved is wanted, the client cookie and the server cookie
 abbrev pub pollHeader : Asked → ℕ → ℤ → Bool → Header
