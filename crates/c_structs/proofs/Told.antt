@@ -2,9 +2,9 @@
 use mathlib.Core.Path.{_≡_, refl, ap, _∙_}
 use mathlib.Core.List.{List}
 use Prim.Native.Nat.{ℕ}
-use Rattle.filter.specs.Calls.{numbers}
-use Rattle.filter.specs.declared.Weighing.{Weighing}
-use Rattle.filter.specs.declared.Weighing.the-variants as weighing
+use Rattle.filter_weight.specs.Weighing.{numbers}
+use Rattle.filter_weight.specs.declared.Weighing.{Weighing}
+use Rattle.filter_weight.specs.declared.Weighing.the-variants as weighing
 use Rattle.client_rules.specs.Call.{Answer}
 use Rattle.client.specs.Answers.{polledAnswer, publishedAnswer, receivedAnswer, verdictAnswerOf}
 use Rattle.client.specs.declared.Polled.{Polled}

@@ -2,8 +2,8 @@
 use mathlib.Core.List.{List, []}
 use Prim.Native.Nat.{ℕ}
 use lib.IntN.{pos}
-use Rattle.filter.specs.declared.Weighing.{Weighing}
-use Rattle.filter.specs.declared.Weighing.the-variants as weighing
+use Rattle.filter_weight.specs.declared.Weighing.{Weighing}
+use Rattle.filter_weight.specs.declared.Weighing.the-variants as weighing
 use Rattle.client_rules.specs.Call.{Answer}
 use Rattle.client.specs.declared.Polled.{Polled}
 use Rattle.client.specs.declared.Polled.the-variants as polled

@@ -2,7 +2,7 @@
 use client::Mode;
 use client::Polled;
 use client::Published;
-use filter::Weighing;
+use filter_weight::Weighing;
 use responder_rules::Answered;
 ghost use mathlib.Core.Path.{_≡_};
 ghost use Rattle.client.specs.Answers.{isInterleaved};

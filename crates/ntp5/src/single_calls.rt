@@ -7,7 +7,8 @@ use c_structs::headers::Read;
 ghost use mathlib.Core.Path.{_≡_};
 ghost use Rattle.header.specs.Header.{refusal, reading, headerOf, written};
 ghost use Rattle.chain.specs.Chain.{soundRefusal};
-ghost use Rattle.filter.specs.Calls.{addId, unite, weighed};
+ghost use Rattle.filter.specs.Calls.{addId, unite};
+ghost use Rattle.filter_weight.specs.Weighing.{weighed};
 ghost use Rattle.measure.specs.Measure.{offset, delay};
 ghost use Rattle.c_structs.specs.Numbers.{weightNumbers};
 ghost use Rattle.c_structs.specs.Headers.{readOf, coreHeader};
@@ -51,7 +52,7 @@ pub extern "C" fn ntp5_filter_union(into: &mut [u8], other: &[u8]) -> u8
 pub extern "C" fn ntp5_filter_weight(filter: &[u8]) -> Weight
     ensures { λ r. ⌜ weightNumbers r ≡ weighed (now (filter .entry)) ⌝ }
 {
-    answers::of_weighing(filter::weigh(filter))
+    answers::of_weighing(filter_weight::weigh(filter))
 }
 
 #[no_mangle]

@@ -45,10 +45,10 @@ fn call_header(row: &[u8], line: &[u8], datagram: &[u8]) {
 
 // weight FILTER
 fn call_weight(row: &[u8], filter: &[u8]) {
-    let weighing = filter::weigh(filter);
+    let weighing = filter_weight::weigh(filter);
     match weighing {
-        filter::Weighing::Refused(number) => print::result(row, number, filter),
-        filter::Weighing::Weight(weight) => print::line(row, &[0, from_u16(weight)], filter),
+        filter_weight::Weighing::Refused(number) => print::result(row, number, filter),
+        filter_weight::Weighing::Weight(weight) => print::line(row, &[0, from_u16(weight)], filter),
     }
 }
 
