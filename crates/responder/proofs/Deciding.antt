@@ -1,5 +1,5 @@
 -- Which case of the answer holds, test by test. Assumes nothing.
-use mathlib.Core.Path.{_≡_, refl, ap, _∙_}
+use mathlib.Core.Path.{_≡_, refl, sym, ap, _∙_}
 use mathlib.Core.Bool.{Bool, true, false, cond, not, _||_}
 use mathlib.Core.List.{List, _++_}
 use Prim.Native.Nat.{ℕ, _-_, _<_, _≤_}
@@ -19,7 +19,7 @@ use Rattle.store_rules.proofs.Rows.{or-none}
 use Rattle.responder_rules.specs.Answer.{Given, asking, savedTime, answerHeader, sentHeader, sentFields, answerOctets, rowAfter, wrongArguments, wrongFresh, answerRefusal, outcome, answerOf}
 use Rattle.responder_rules.specs.declared.Answered.the-variants.{Written, Refused}
 use Rattle.responder_rules.specs.Claim.{Accepted}
-use Rattle.responder_rules.proofs.Accepting.{not-given, answer-accepted}
+use Rattle.responder_rules.proofs.Accepting.{not-given, answer-accepted, answer-written, answer-refused}
 
 module _ (g : Given) (store out : List ℕ) where
   abbrev wrong : Bool
@@ -45,8 +45,7 @@ module _ (g : Given) (store out : List ℕ) where
       go false false e = rw e
 
   refused : (n : ℕ) → (n ≡ 0 → ⊥) → answerRefusal g store out ≡ n → outcome (Refused n) out store ≡ answerOf g store out
-  unfolding answerOf
-  refused n z e = rw (e, ne-eqb n 0 z)
+  refused n z e = sym (answer-refused g store out (λ k. z (sym e ∙ k)) ∙ rw e)
 
   -- the first refusals
   pub refused-first : {n : ℕ} → n ≡ first → (n ≡ 0 → ⊥) → outcome (Refused n) out store ≡ answerOf g store out
@@ -79,8 +78,7 @@ module _ (g : Given) (store out : List ℕ) where
         pub answered : {o s : List ℕ} → o ≡ answerOctets g (rowOf store) ++ drop (length (g .request)) out
             → s ≡ storeOctets (sizeOf store) (rowAfter (asking g) (g .fresh) (sizeOf store) (rowOf store))
             → outcome (Written (length (g .request))) o s ≡ answerOf g store out
-        unfolding answerOf
-        answered p q = rw (none, p, q)
+        answered p q = rw (p, q) (sym (answer-written g store out none))
 
 -- a part of the output is lent, and comes back
 

@@ -1,4 +1,4 @@
--- Where an answer is not refused: its request and arguments are accepted, and the times of its row are of 64 bits. Assumes nothing.
+-- What an answer returns where it is refused and where it is not; then its request and arguments are accepted. Assumes nothing.
 use mathlib.Core.Path.{_≡_, refl}
 use mathlib.Core.Bool.{Bool, true, false, cond, not, _||_}
 use mathlib.Core.List.{List, _++_}
@@ -67,6 +67,12 @@ pub answer-written : (g : Given) (store out : List ℕ) → answerRefusal g stor
 }
 unfolding answerOf
 answer-written g store out e = rw (eq-eqb _ _ e)
+
+-- and where it is not: the number, and nothing changed
+pub answer-refused : (g : Given) (store out : List ℕ) → (answerRefusal g store out ≡ 0 → ⊥)
+    → answerOf g store out ≡ record { refusal = answerRefusal g store out; length = 0; out = out; store = store }
+unfolding answerOf
+answer-refused g store out h = rw (ne-eqb _ 0 h)
 
 -- the number that an answer returns is its refusal
 pub answer-number : (g : Given) (store out : List ℕ) → answerOf g store out .refusal ≡ answerRefusal g store out

@@ -4,7 +4,7 @@ use mathlib.Core.Bool.{Bool, true, false, cond, _&&_, _||_}
 use mathlib.Core.List.{List, [], _∷_, _++_}
 use Prim.Native.Nat.{ℕ, _<_, _≤_, _^_}
 use native.Mathlib.Omega.{arith}
-use borrow.Author.Tests.{ne-eqb, eqb-false}
+use borrow.Author.Tests.{eqb-false}
 use lib.Dec.{eqb, lit<}
 use lib.ListN.{length, drop}
 use Rattle.store_rules.specs.Row.{Record, held, timeOf, without, joined, storeOctets}
@@ -16,7 +16,7 @@ use Rattle.responder_rules.specs.Answer.{Given, asking, wantsInterleaved
 use Rattle.responder_rules.specs.Claim.{InRange}
 use Rattle.responder_rules.specs.Once.{askedCookie}
 use Rattle.responder_rules.proofs.Answers.{either}
-use Rattle.responder_rules.proofs.Accepting.{answer-fresh}
+use Rattle.responder_rules.proofs.Accepting.{answer-fresh, answer-written}
 
 -- the times of a sound row are of 64 bits
 pub sound-times : (row : List Record) → SoundRow row → (cookie : ℕ) → timeOf cookie row < 2 ^ 64
@@ -110,13 +110,7 @@ module _ {s : List ℕ} {n : ℕ} {row : List Record} (w : Stores s n row) (g : 
   -- an answer that is not refused
   pub answer-done : answerRefusal g s out ≡ 0 → answerOf g s out
       ≡ record { refusal = 0; length = length (g .request); out = answerOctets g row ++ drop (length (g .request)) out; store = storeOctets n next }
-  unfolding answerOf
-  answer-done e = rw (e, stores-row w, stores-size w)
-
-  -- one that is refused
-  pub answer-refused : (answerRefusal g s out ≡ 0 → ⊥) → answerOf g s out ≡ record { refusal = answerRefusal g s out; length = 0; out = out; store = s }
-  unfolding answerOf
-  answer-refused h = rw (ne-eqb (answerRefusal g s out) 0 h)
+  answer-done e = answer-written g s out e ∙ rw (stores-row w, stores-size w)
 
   -- the fresh cookie is not wrong
   fresh-right : answerRefusal g s out ≡ 0 → wrongFresh (asking g) (g .fresh) row ≡ false

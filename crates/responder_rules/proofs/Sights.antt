@@ -18,8 +18,8 @@ use Rattle.responder_rules.specs.Answer.{Given, Outcome, asking, savedTi
 use Rattle.responder_rules.specs.Claim.{InRange}
 use Rattle.responder_rules.specs.Once.{askedCookie, interleaved}
 use Rattle.responder_rules.proofs.Answers.{answer-header-more}
-use Rattle.responder_rules.proofs.Accepting.{answer-accepted}
-use Rattle.responder_rules.proofs.Leaving.{range-row, Saved, is-saved, answer-done, answer-refused, answer-stores, fresh-new}
+use Rattle.responder_rules.proofs.Accepting.{answer-accepted, answer-refused}
+use Rattle.responder_rules.proofs.Leaving.{range-row, Saved, is-saved, answer-done, answer-stores, fresh-new}
 
 -- flag 0x2 is as it was put
 flag-put : (basic : Bool) (flags : ℕ) → interleavedFlag (flags - flags / 2 % 2 * 2 + cond basic 0 2) ≡ not basic
@@ -47,7 +47,7 @@ module _ {s : List ℕ} {n : ℕ} {row : List Record} (w : Stores s n row) (g : 
 
   -- a refused answer is not seen as interleaved
   pub refused-sight : (answerRefusal g s out ≡ 0 → ⊥) → interleaved (got .refusal) (got .out) ≡ false
-  refused-sight h = rw (answer-refused w g out h, ne-eqb (answerRefusal g s out) 0 h)
+  refused-sight h = rw (answer-refused g s out h, ne-eqb (answerRefusal g s out) 0 h)
 
   module _ (e : answerRefusal g s out ≡ 0) where
     -- the header that stands in the output is the one that went in

@@ -12,7 +12,8 @@ use Rattle.store_rules.proofs.Kept.{sound-without, without-gone, without-absent
 use Rattle.responder_rules.specs.Answer.{Given, asking, wantsInterleaved, savedTime, rowAfter, answerRefusal, answerOf}
 use Rattle.responder_rules.specs.Claim.{InRange}
 use Rattle.responder_rules.specs.Once.{Call, clear, report, answer, Typed, AllTyped, step, reached, askedCookie, Event, reports, sends, eventOf, events, balanced, Right, Once}
-use Rattle.responder_rules.proofs.Leaving.{is-saved, answer-done, answer-refused, answer-stores, fresh-new}
+use Rattle.responder_rules.proofs.Accepting.{answer-refused}
+use Rattle.responder_rules.proofs.Leaving.{is-saved, answer-done, answer-stores, fresh-new}
 use Rattle.responder_rules.proofs.Reported.{clear-done, clear-stores, report-refused, report-held, report-done, report-stores}
 use Rattle.responder_rules.proofs.Owing.{Owes, owes-none, owes-joined, owes-without, owes-reported}
 use Rattle.responder_rules.proofs.Sights.{refused-sight, header-done, done-sight, sight-gone}
@@ -67,7 +68,7 @@ module _ {s : List ℕ} {n : ℕ} {owed row : List Record} (w : Stores s n row) 
     answer-not h = record {
       row = row;
       left = owed;
-      stores = rw (answer-refused w g out h) w;
+      stores = rw (answer-refused g s out h) w;
       owes = o;
       counts = λ es. rw (refused-sight w g r out h);
     }
