@@ -9,9 +9,9 @@ use lib.ListN.{length, take, length-append}
 use lib.Seq.{take-all, take-at, length-take-le}
 use Rattle.chain.specs.Content.{Content, chainOctets}
 use Rattle.chain.specs.Field.{fieldsOf}
-use Rattle.chain.specs.Role.{noneMet}
+use Rattle.field_role.specs.Role.{noneMet}
 use Rattle.chain.proofs.Contents.{chain-append, chain-fours}
-use Rattle.chain.proofs.Roles.{met-none}
+use Rattle.field_role.proofs.Roles.{met-none}
 use Rattle.store_rules.proofs.Rows.{or-none}
 use Rattle.responder_rules.specs.Answer.{answersTo, paddingOf, answerFields}
 use Rattle.answer_fields.specs.Fields.{wrongSizes, fieldsWritten}

@@ -8,17 +8,17 @@ use lib.ListN.{length}
 use Rattle.chain.specs.Chain.{padded, stepAt}
 use Rattle.chain.specs.Content.{Content, chainOctets}
 use Rattle.chain.specs.Field.{fieldsFrom}
-use Rattle.chain.specs.Role.{roleOf, noneMet, metAfter, roleWith, isAnswered}
+use Rattle.field_role.specs.Role.{roleOf, noneMet, metAfter, roleWith, isAnswered}
 use Rattle.chain.specs.declared.cursor.Cursor.{Cursor}
 use Rattle.chain.specs.declared.cursor.Field.{Field}
 use Rattle.chain.specs.declared.cursor.Step.{Step}
 use Rattle.chain.specs.declared.cursor.Step.the-variants.{Found, End}
-use Rattle.chain.specs.declared.role.Met.{Met}
-use Rattle.chain.specs.declared.role.Role.{Role}
+use Rattle.field_role.specs.declared.Met.{Met}
+use Rattle.field_role.specs.declared.Role.{Role}
 use Rattle.chain.proofs.Steps.{Stopped, at-an-end, at-end, reached, reached-exactly}
 use Rattle.chain.proofs.Contents.{chain-append}
 use Rattle.chain.proofs.Fields.{no-field, next-field}
-use Rattle.chain.proofs.Roles.{Suits, suits-with, metOf, met-next, role-met, unanswered-role, unanswered-met}
+use Rattle.field_role.proofs.Roles.{Suits, suits-with, metOf, met-next, role-met, unanswered-role, unanswered-met}
 use Rattle.responder_rules.specs.Answer.{answerTo, answersTo}
 use Rattle.answer_fields.specs.Pass.{Lays, answersWith}
 use Rattle.answer_fields.proofs.Laying.{lays-none, lays-next, length-laid}

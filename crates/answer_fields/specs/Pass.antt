@@ -5,9 +5,9 @@ use Prim.Native.Nat.{ℕ, _+_}
 use lib.ListN.{length}
 use lib.Seq.{paste}
 use Rattle.chain.specs.Content.{Content}
-use Rattle.chain.specs.Role.{metAfter, roleWith}
+use Rattle.field_role.specs.Role.{metAfter, roleWith}
 use Rattle.chain.specs.declared.cursor.Field.{Field}
-use Rattle.chain.specs.declared.role.Met.{Met}
+use Rattle.field_role.specs.declared.Met.{Met}
 use Rattle.responder_rules.specs.Answer.{answerTo}
 
 -- the octets xs were written over s from `at` on, which gives t, and `next` is the place after them

@@ -3,8 +3,7 @@ use chain::DRAFT_NAME;
 use chain::cursor::Cursor;
 use chain::cursor::Field;
 use chain::cursor::Step;
-use chain::role;
-use chain::role::Role;
+use field_role::Role;
 use octets::number;
 use octets::part;
 ghost use mathlib.Core.Path.{_≡_};
@@ -14,8 +13,8 @@ ghost use lib.ListN.{length, take, drop};
 ghost use Rattle.chain.specs.Chain.{padded};
 ghost use Rattle.chain.specs.Content.{content, chainOctets};
 ghost use Rattle.chain.specs.Field.{fieldsFrom};
-ghost use Rattle.chain.specs.Role.{noneMet};
-ghost use Rattle.chain.proofs.Roles.{Suits};
+ghost use Rattle.field_role.specs.Role.{noneMet};
+ghost use Rattle.field_role.proofs.Roles.{Suits};
 ghost use Rattle.responder_rules.specs.Answer.{answerTo, paddingOf};
 ghost use Rattle.answer_fields.specs.Fields.{fieldsWritten};
 ghost use Rattle.answer_fields.specs.Pass.{Lays, answersWith};
@@ -71,16 +70,16 @@ fn answers(request: &[u8], filter: &[u8], information: &[u8], out: &mut [u8]) ->
         r (now (out .exit)) × (r ≤ length (now (request .entry))) ⌝ }
 {
     let mut cursor = Cursor { at: 48 };
-    let mut met = role::none_met();
+    let mut met = field_role::none_met();
     let mut at = 48;
     while cursor.at < request.len() {
         let Step::Found(field, next) = cursor.step(request) else {
             return at;
         };
-        if role::is_answered(field.kind) {
-            let role = role::role_of(request, field, met);
+        if field_role::is_answered(field.kind) {
+            let role = field_role::role_of(request, field, met);
             at = answer_to(role, field, filter, information, out, at);
-            met = role::met_after(met, field.kind);
+            met = field_role::met_after(met, field.kind);
         }
         cursor = next;
     }

@@ -14,11 +14,11 @@ use Rattle.header.proofs.RoundTrip.{length-octetsOf, read-written, version-writ
 use Rattle.chain.specs.Chain.{soundRefusal, chainRefusal}
 use Rattle.chain.specs.Field.{fieldsOf}
 use Rattle.chain.specs.Content.{Content, chainOctets, placed, contentsOf}
-use Rattle.chain.specs.Role.{roleOf}
+use Rattle.field_role.specs.Role.{roleOf}
 use Rattle.chain.specs.declared.cursor.Field.{Field}
-use Rattle.chain.specs.declared.role.Role.the-variants.{FilterRequest}
+use Rattle.field_role.specs.declared.Role.the-variants.{FilterRequest}
 use Rattle.chain.proofs.Datagrams.{header-passes, sound-datagram}
-use Rattle.chain.proofs.Roles.{Suits, suits}
+use Rattle.field_role.proofs.Roles.{Suits, suits}
 use Rattle.chain.proofs.Contents.{AllFit, fit-append, chain-fours, length-chain-append, fields-written, chain-written, contents-written}
 use Rattle.store_rules.specs.Row.{Record, timeOf}
 use Rattle.responder_rules.specs.Answer.{Given, wantsInterleaved, savedTime, sentHeader, answersTo, paddingOf, answerFields, answerOctets, asking, sentFields}

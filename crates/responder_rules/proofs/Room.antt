@@ -10,13 +10,13 @@ use lib.ListN.{length, take, drop, replicate, length-take, length-drop, length-r
 use Rattle.chain.specs.Chain.{padded, stepAt, Walk, onStep, walkFor, walk}
 use Rattle.chain.specs.Field.{fieldsFrom}
 use Rattle.chain.specs.Content.{content, chainOctets, draftName}
-use Rattle.chain.specs.Role.{roleOf}
+use Rattle.field_role.specs.Role.{roleOf}
 use Rattle.chain.specs.declared.cursor.Field.{Field}
 use Rattle.chain.specs.declared.cursor.Step.{Step}
-use Rattle.chain.specs.declared.role.Role.{Role}
-use Rattle.chain.specs.declared.role.Role.the-variants.{FilterRequest, Information, DraftName, Unknown}
+use Rattle.field_role.specs.declared.Role.{Role}
+use Rattle.field_role.specs.declared.Role.the-variants.{FilterRequest, Information, DraftName, Unknown}
 use Rattle.chain.proofs.Steps.{lengthAt, View, ended, cut, few, past, unclean, sound, view}
-use Rattle.chain.proofs.Roles.{Suits, suits}
+use Rattle.field_role.proofs.Roles.{Suits, suits}
 use Rattle.chain.proofs.Contents.{AllFit, fit-append, length-chain-one, length-chain-append}
 use Rattle.responder_rules.specs.Answer.{answerTo, answersTo, paddingOf}
 

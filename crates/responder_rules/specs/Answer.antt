@@ -9,10 +9,10 @@ use Rattle.header.specs.declared.Header.{Header}
 use Rattle.chain.specs.Chain.{soundRefusal}
 use Rattle.chain.specs.Field.{fieldsOf}
 use Rattle.chain.specs.Content.{Content, content, chainOctets, draftName}
-use Rattle.chain.specs.Role.{roleOf}
+use Rattle.field_role.specs.Role.{roleOf}
 use Rattle.chain.specs.declared.cursor.Field.{Field}
-use Rattle.chain.specs.declared.role.Role.{Role}
-use Rattle.chain.specs.declared.role.Role.the-variants.{FilterRequest, Information, DraftName, Unknown}
+use Rattle.field_role.specs.declared.Role.{Role}
+use Rattle.field_role.specs.declared.Role.the-variants.{FilterRequest, Information, DraftName, Unknown}
 use Rattle.store_rules.specs.Row.{Record, held, timeOf, without, joined, storeOctets, sizeOf, rowOf, wrongStore}
 use Rattle.responder_rules.specs.declared.Server.{Server}
 use Rattle.responder_rules.specs.declared.Answered.{Answered}

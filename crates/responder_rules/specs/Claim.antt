@@ -10,9 +10,9 @@ use Rattle.header.specs.Header.{headerOf}
 use Rattle.chain.specs.Chain.{soundRefusal}
 use Rattle.chain.specs.Field.{fieldsOf}
 use Rattle.chain.specs.Content.{placed, contentsOf}
-use Rattle.chain.specs.Role.{roleOf}
+use Rattle.field_role.specs.Role.{roleOf}
 use Rattle.chain.specs.declared.cursor.Field.{Field}
-use Rattle.chain.specs.declared.role.Role.the-variants.{FilterRequest}
+use Rattle.field_role.specs.declared.Role.the-variants.{FilterRequest}
 use Rattle.store_rules.specs.Row.{Record, timeOf}
 use Rattle.responder_rules.specs.Answer.{Given, sentHeader, answerOctets, sentFields}
 

@@ -19,7 +19,7 @@ use Rattle.chain.specs.Field.{fieldsOf, firstOf}
 use Rattle.chain.specs.Content.{contentsOf, chainOctets, placed}
 use Rattle.chain.specs.declared.find.Occurrence.{Occurrence}
 use Rattle.chain.specs.declared.find.Occurrence.the-variants.{At}
-use Rattle.chain.proofs.Roles.{Good}
+use Rattle.field_role.proofs.Roles.{Good}
 use Rattle.chain.proofs.Contents.{chain-octets, name-octets}
 use Rattle.poll_request.specs.Request.{pollHeader, pollOctets}
 use Rattle.exchange.specs.Response.{withChunk, responseOf}

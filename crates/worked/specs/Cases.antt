@@ -9,7 +9,7 @@ use Rattle.octets.specs.Number.{octets}
 use Rattle.header.specs.Header.{octetsOf}
 use Rattle.header.specs.declared.Header.{Header}
 use Rattle.chain.specs.Chain.{soundRefusal}
-use Rattle.chain.specs.Role.{goodRequest}
+use Rattle.field_role.specs.Role.{goodRequest}
 use Rattle.filter.specs.Filter.{ofId, weight}
 use Rattle.measure.specs.Measure.{offset, delay}
 

@@ -2,7 +2,7 @@
 use mathlib.Core.Path.{subst}
 use native.Mathlib.Omega.{arith}
 use Rattle.chain.specs.Content.{chainOctets, draftName}
-use Rattle.chain.proofs.Roles.{Suits}
+use Rattle.field_role.proofs.Roles.{Suits}
 use Rattle.answer_fields.proofs.Laying.{lays-none, information-whole, name-cut}
 use borrow.Author.Needs.{needs}
 use Rattle.answer_fields.proofs.answer_to.Statement.{statement}

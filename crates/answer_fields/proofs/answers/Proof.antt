@@ -5,7 +5,7 @@ use Prim.Native.Nat.{_-_, _<_}
 use native.Mathlib.Omega.{arith}
 use lib.ListN.{length}
 use Rattle.chain.proofs.Steps.{reached, stopped}
-use Rattle.chain.proofs.Roles.{Suits, suits-with}
+use Rattle.field_role.proofs.Roles.{Suits, suits-with}
 use Rattle.answer_fields.proofs.Passes.{Passing, pass-begins, pass-stops, pass-ends, pass-room, pass-goes-on, pass-skips}
 use borrow.Author.Needs.{needs}
 use Rattle.answer_fields.proofs.answers.Statement.{statement}

@@ -4,10 +4,10 @@ use mathlib.Core.List.{List, [], _∷_}
 use Prim.Native.Nat.{ℕ, _+_, _%_}
 use lib.Dec.{eqb, leb}
 use Rattle.octets.specs.Number.{getAt}
 use Rattle.chain.specs.declared.cursor.Field.{Field}
-use Rattle.chain.specs.declared.role.Met.{Met}
-use Rattle.chain.specs.declared.role.Role.{Role}
-use Rattle.chain.specs.declared.role.Role.the-variants.{FilterRequest, Information, DraftName, Unknown}
+use Rattle.field_role.specs.declared.Met.{Met}
+use Rattle.field_role.specs.declared.Role.{Role}
+use Rattle.field_role.specs.declared.Role.the-variants.{FilterRequest, Information, DraftName, Unknown}
 
 -- a filter request of n data octets is good when n is a multiple of 4 from 4 to 512 and offset + n is at most 512
 abbrev pub goodRequest : ℕ → ℕ → Bool

@@ -1,8 +1,8 @@
 // What a field of a request asks of a responder.
-use crate::cursor::Field;
+use chain::cursor::Field;
 use octets::number;
 ghost use mathlib.Core.Path.{_≡_};
-ghost use Rattle.chain.specs.Role.{isAnswered, noneMet, metAfter, roleWith, requestRole};
+ghost use Rattle.field_role.specs.Role.{isAnswered, noneMet, metAfter, roleWith, requestRole};
 
 // Which of the types that a responder answers were met already.
 pub struct Met {

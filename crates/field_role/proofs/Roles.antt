@@ -7,11 +7,11 @@ use native.Mathlib.Omega.{arith}
 use borrow.Author.Tests.{eq-eqb, eqb-true, le-leb, leb-true}
 use lib.Dec.{eqb, leb}
 use Rattle.octets.specs.Number.{getAt}
-use Rattle.chain.specs.Role.{requestRole, firstRole, alreadyMet, roleOf, noneMet, metAfter, roleWith, isAnswered}
+use Rattle.field_role.specs.Role.{requestRole, firstRole, alreadyMet, roleOf, noneMet, metAfter, roleWith, isAnswered}
 use Rattle.chain.specs.declared.cursor.Field.{Field}
-use Rattle.chain.specs.declared.role.Met.{Met}
-use Rattle.chain.specs.declared.role.Role.{Role}
-use Rattle.chain.specs.declared.role.Role.the-variants.{FilterRequest, Information, DraftName, Unknown}
+use Rattle.field_role.specs.declared.Met.{Met}
+use Rattle.field_role.specs.declared.Role.{Role}
+use Rattle.field_role.specs.declared.Role.the-variants.{FilterRequest, Information, DraftName, Unknown}
 
 -- the flags of a list of fields
 abbrev pub metOf : List Field → Met

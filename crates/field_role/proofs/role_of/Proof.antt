@@ -2,10 +2,10 @@
 use borrow.Author.Tests.{eq-eqb, ne-eqb}
 use mathlib.Core.Path.{ap, _∙_}
 use Prim.Native.Nat.{ℕ}
-use Rattle.chain.specs.Role.{requestRole, roleWith}
+use Rattle.field_role.specs.Role.{requestRole, roleWith}
 use borrow.Author.Needs.{needs}
-use Rattle.chain.proofs.role.role_of.Statement.{statement}
-use Rattle.chain.proofs.role.role_of.Tie as tie
+use Rattle.field_role.proofs.role_of.Statement.{statement}
+use Rattle.field_role.proofs.role_of.Tie as tie
 
 returns : tie.Need-returns
 unfolding roleWith

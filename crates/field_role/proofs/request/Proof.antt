@@ -1,8 +1,8 @@
 -- `request` meets its contract: at each `return` the tests that led there say whether the request is good. Assumes nothing.
 use borrow.Author.Tests.{le-leb, lt-leb, eq-eqb, ne-eqb}
 use borrow.Author.Needs.{needs}
-use Rattle.chain.proofs.role.request.Statement.{statement}
-use Rattle.chain.proofs.role.request.Tie as tie
+use Rattle.field_role.proofs.request.Statement.{statement}
+use Rattle.field_role.proofs.request.Tie as tie
 
 returns : tie.Need-returns
 returns c = rw (ne-eqb _ _ (c .if1 .taken))

@@ -1,0 +1,2 @@
+-- The laws of roles. Assumes nothing.
+pub mod Roles

@@ -1,0 +1,2 @@
+-- What a field of a request asks of a responder.
+pub mod Role
