@@ -9,7 +9,7 @@ use borrow.Rule.Slice.PartMut.{putMid, put-same}
 use lib.ListN.{length, take, drop}
 use Rattle.octets.specs.Number.{putAt}
 use Rattle.octets.specs.Part.{copyAt}
-use Rattle.text.specs.Line.{numberAt, bitsAt, octetsAt}
+use Rattle.words.specs.Line.{numberAt, bitsAt, octetsAt}
 use Rattle.store_rules.specs.Row.{wrongSize, storeOctets, sizeOf, cleared, reporting}
 use Rattle.responder_rules.specs.Answer.{Outcome, outcome, answerOf}
 use Rattle.responder_rules.specs.declared.Answered.{Answered}

@@ -1,7 +1,7 @@
 -- What the words of an `answer` line give the responder.
 use mathlib.Core.List.{List}
 use Prim.Native.Nat.{ℕ}
-use Rattle.text.specs.Line.{numberAt, bitsAt, signedAt, octetsAt}
+use Rattle.words.specs.Line.{numberAt, bitsAt, signedAt, octetsAt}
 use Rattle.responder_rules.specs.Answer.{Given}
 use Rattle.responder_rules.specs.declared.Server.{Server}
 

@@ -6,7 +6,7 @@ use lib.Dec.{eqb, ltb}
 use lib.ListN.{length, take, drop}
 use Rattle.octets.specs.Number.{getAt, putAt}
 use Rattle.octets.specs.Part.{copyAt}
-use Rattle.text.specs.Line.{numberAt, bitsAt, octetsAt}
+use Rattle.words.specs.Line.{numberAt, bitsAt, octetsAt}
 use Rattle.store_rules.specs.Row.{cleared, reporting}
 use Rattle.responder_rules.specs.Answer.{answerOf}
 use Rattle.actions.specs.Given.{givenOf}

@@ -5,14 +5,14 @@ mod answering;
 use header::ServerCookie;
 use octets::number;
 use octets::part;
-use text::line::u8_at;
-use text::line::u64_at;
-use text::octet_word::octets_of;
 use text::piece;
+use words::line::u8_at;
+use words::line::u64_at;
+use words::octet_word::octets_of;
 ghost use mathlib.Core.Path.{_≡_};
 ghost use Prim.Native.Nat.{_+_, _*_, _≤_};
 ghost use lib.ListN.{length};
-ghost use Rattle.text.specs.Line.{bitsAt, octetsAt};
+ghost use Rattle.words.specs.Line.{bitsAt, octetsAt};
 ghost use Rattle.actions.specs.Kept.{lengthOf, storeReported, storeAfter, keptCleared, keptLent, keptAfter};
 
 // Where the store ends.

@@ -5,7 +5,7 @@ use mathlib.Core.List.{List}
 use Prim.Native.Nat.{ℕ}
 use lib.IntN.{ℤ}
 use borrow.Author.Tests.{ne-eqb}
-use Rattle.text.specs.Line.{numberAt, bitsAt, signedAt, octetsAt}
+use Rattle.words.specs.Line.{numberAt, bitsAt, signedAt, octetsAt}
 use Rattle.client_rules.specs.Call.{Call, Answer, clearTable, openOne, closeOne, poll, sent, receive}
 use Rattle.client_rules.specs.Octets.{stepOctets}
 use Rattle.changes.specs.Change.{interleavedAt, pollOf, receiveOf, changeOf, callOf, tableAfter}

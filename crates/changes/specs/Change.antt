@@ -3,7 +3,7 @@ use mathlib.Core.Bool.{Bool, cond}
 use mathlib.Core.List.{List, [], _∷_}
 use Prim.Native.Nat.{ℕ}
 use lib.Dec.{eqb}
-use Rattle.text.specs.Line.{numberAt, bitsAt, signedAt, octetsAt}
+use Rattle.words.specs.Line.{numberAt, bitsAt, signedAt, octetsAt}
 use Rattle.text.specs.Place.{pieceOf, sameOf}
 use Rattle.client_rules.specs.Call.{Call, clearTable, openOne, closeOne, poll, sent, receive}
 use Rattle.client_rules.specs.Octets.{stepOctets}

@@ -3,12 +3,12 @@
 mod answers;
 
 use header::ClientCookie;
-use text::line::i8_at;
-use text::line::u8_at;
-use text::line::u16_at;
-use text::line::u64_at;
-use text::octet_word::octets_of;
 use text::piece;
+use words::line::i8_at;
+use words::line::u8_at;
+use words::line::u16_at;
+use words::line::u64_at;
+use words::octet_word::octets_of;
 ghost use mathlib.Core.Path.{_≡_};
 ghost use mathlib.Core.List.{[]};
 ghost use Rattle.client_rules.specs.Call.{plainAnswer};

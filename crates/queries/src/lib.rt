@@ -4,8 +4,8 @@
 mod outputs;
 mod views;
 
-use text::line::word_of;
-use text::octet_word::octets_of;
+use words::line::word_of;
+use words::octet_word::octets_of;
 ghost use mathlib.Core.Path.{_≡_};
 
 // The call of this number, that of its row from 0 on, and its result. `table` is the client's.

@@ -1,11 +1,11 @@
 // The calls that change an output buffer, whose octets stand in the line: write, add, union and publish.
-use text::line::i8_at;
-use text::line::u8_at;
-use text::line::u16_at;
-use text::line::u32_at;
-use text::line::u64_at;
-use text::line::word_of;
-use text::octet_word::octets_of;
+use words::line::i8_at;
+use words::line::u8_at;
+use words::line::u16_at;
+use words::line::u32_at;
+use words::line::u64_at;
+use words::line::word_of;
+use words::octet_word::octets_of;
 
 // The header of a line's first fourteen words.
 fn header_of(line: &[u8]) -> header::Header {

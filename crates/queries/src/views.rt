@@ -4,8 +4,8 @@ use print::convert::from_i64;
 use print::convert::from_u8;
 use print::convert::from_u16;
 use print::convert::from_u32;
-use text::line::u8_at;
-use text::line::u64_at;
+use words::line::u8_at;
+use words::line::u64_at;
 
 // Every field of a header, after a 0.
 fn fields(row: &[u8], h: header::Header) {

@@ -8,7 +8,7 @@ use native.Mathlib.Omega.{arith}
 use borrow.Author.Tests.{eq-eqb, ne-eqb, lt-ltb, le-ltb}
 use lib.Dec.{eqb}
 use lib.ListN.{length}
-use Rattle.text.specs.Numeral.{readOf}
+use Rattle.words.specs.Numeral.{readOf}
 use Rattle.text.specs.Place.{partOf, pieceOf, sameOf}
 use Rattle.rows.specs.declared.Found.{Found}
 use Rattle.rows.specs.Rows.{found, modeProblem, octetsProblem, problemOf, problemAt, faultFrom, faultOf, rowFrom, rowOf, foundAt, foundOf, callIn, callOf}

@@ -5,8 +5,8 @@ use Prim.Native.Nat.{ℕ, zero, suc, _+_}
 use lib.Dec.{eqb, ltb}
 use lib.ListN.{length}
 use Rattle.octets.specs.Number.{getAt}
-use Rattle.text.specs.Numeral.{readOf}
-use Rattle.text.specs.OctetWord.{layOf}
+use Rattle.words.specs.Numeral.{readOf}
+use Rattle.words.specs.OctetWord.{layOf}
 use Rattle.text.specs.Place.{partOf, pieceOf, sameOf}
 use Rattle.rows.specs.declared.Found.{Found}
 

@@ -7,11 +7,11 @@
 //   I            octets that the call reads
 //   O            octets that the call may change, at most one word of a call
 use octets::number::get8;
-use text::number::read;
-use text::octet_word::lay;
 use text::part;
 use text::piece;
 use text::same;
+use words::number::read;
+use words::octet_word::lay;
 ghost use mathlib.Core.Path.{_≡_};
 ghost use Rattle.rows.specs.Rows.{modeProblem, octetsProblem, problemOf, rowOf, faultOf, foundOf, callOf};
 

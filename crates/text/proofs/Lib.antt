@@ -1,5 +1,3 @@
+-- The laws of text. Assumes nothing.
 pub mod Gathering
-pub mod Laying
-pub mod Numerals
-pub mod OctetWords
 pub mod Places

@@ -1,6 +1,3 @@
--- Text: its parts and pieces, and words that are numbers or octets.
+-- Text: its parts and pieces, and its lines.
 pub mod Gather
-pub mod Line
-pub mod Numeral
-pub mod OctetWord
 pub mod Place

@@ -1,9 +1,5 @@
-// Looking through text, and words that are numbers or octets. These functions ask nothing of their numbers: what is
-// past an end is empty.
+// Looking through text. These functions ask nothing of their numbers: what is past an end is empty.
 pub mod gather;
-pub mod line;
-pub mod number;
-pub mod octet_word;
 
 ghost use mathlib.Core.Path.{_≡_};
 ghost use lib.ListN.{drop};

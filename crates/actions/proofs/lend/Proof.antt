@@ -1,5 +1,5 @@
 -- `lend` meets its contract: the octets are the line's. Assumes nothing.
-use Rattle.text.proofs.Laying.{octets-at}
+use Rattle.words.proofs.Laying.{octets-at}
 use Rattle.actions.proofs.Keeping.{lent}
 use borrow.Author.Needs.{needs}
 use Rattle.actions.proofs.lend.Statement.{statement}

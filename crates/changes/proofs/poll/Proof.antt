@@ -2,7 +2,7 @@
 use mathlib.Core.Path.{_∙_}
 use mir.Syntax.{w8}
 use mir.Facts.{toZ-ofZ}
-use Rattle.text.proofs.Laying.{octets-at}
+use Rattle.words.proofs.Laying.{octets-at}
 use Rattle.changes.proofs.Changing.{poll-as, left}
 use borrow.Author.Needs.{needs}
 use Rattle.changes.proofs.poll.Statement.{statement}

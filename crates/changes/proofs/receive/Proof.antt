@@ -1,5 +1,5 @@
 -- `receive` meets its contract: its values are the line's. Assumes nothing.
-use Rattle.text.proofs.Laying.{octets-at}
+use Rattle.words.proofs.Laying.{octets-at}
 use Rattle.changes.proofs.Changing.{receive-as, left}
 use borrow.Author.Needs.{needs}
 use Rattle.changes.proofs.receive.Statement.{statement}

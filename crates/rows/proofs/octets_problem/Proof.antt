@@ -2,7 +2,7 @@
 use mathlib.Core.Path.{ap}
 use mathlib.Core.List.{List}
 use Prim.Native.Nat.{ℕ}
-use Rattle.text.specs.declared.number.Value.{Value}
+use Rattle.words.specs.declared.number.Value.{Value}
 use Rattle.rows.specs.Rows.{octetsProblem}
 use borrow.Author.Needs.{needs}
 use Rattle.rows.proofs.octets_problem.Statement.{statement}

@@ -1,7 +1,7 @@
 -- `problem_of` meets its contract. Assumes nothing.
 use mathlib.Core.Path.{ap, _∙_}
 use mathlib.Core.Logic.{inl, inr}
-use Rattle.text.specs.declared.number.Value.{Value}
+use Rattle.words.specs.declared.number.Value.{Value}
 use Rattle.rows.proofs.Finding.{problem-none, problem-over, problem-missing, problem-mode, problem-octets, problem-number}
 use borrow.Author.Needs.{needs}
 use Rattle.rows.proofs.problem_of.Statement.{statement}

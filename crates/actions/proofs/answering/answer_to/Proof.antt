@@ -1,5 +1,5 @@
 -- `answer_to` meets its contract: the output is the line's. Assumes nothing.
-use Rattle.text.proofs.Laying.{octets-at}
+use Rattle.words.proofs.Laying.{octets-at}
 use Rattle.actions.proofs.Keeping.{answered}
 use borrow.Author.Needs.{needs}
 use Rattle.actions.proofs.answering.answer_to.Statement.{statement}

@@ -1,0 +1,36 @@
+-- `i8_at` meets its contract. Assumes nothing.
+use mathlib.Core.Path.{ap, _∙_}
+use Prim.Native.Nat.{_%_}
+use mir.Syntax.{w8}
+use mir.Val.{toZ}
+use mir.Facts.{toZ-ofZ}
+use Rattle.words.specs.declared.number.Value.{Value}
+use Rattle.words.specs.Numeral.{readOf}
+use Rattle.words.specs.Line.{signedAt}
+use borrow.Author.Needs.{needs}
+use Rattle.words.proofs.line.i8_at.Statement.{statement}
+use Rattle.words.proofs.line.i8_at.Tie as tie
+
+piece-requires : tie.Need-piece-requires
+piece-requires c κs = search needs
+
+read-requires : tie.Need-read-requires
+read-requires c κs = search needs
+
+cast-from-octet : tie.Need-cast-from-octet
+cast-from-octet c = search needs
+
+from-octet-requires : tie.Need-from-octet-requires
+from-octet-requires c κs = search needs
+
+returns : tie.Need-returns
+unfolding signedAt
+returns c =
+    let r = c .before .before in
+    toZ-ofZ {w = w8} (record { sfits = c .from-octet .ok })
+    ∙ c .from-octet .ensures
+    ∙ ap (λ (v : Value). toZ w8 (v .value % 256)) (r .read .ensures ∙ ap (readOf 115) (r .before .piece .ensures))
+
+pub i8-at-spec : {M : Type 1} → statement M
+i8-at-spec =
+    tie.close (tie.spec piece-requires read-requires cast-from-octet from-octet-requires returns)

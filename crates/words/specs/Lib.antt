@@ -1,0 +1,4 @@
+-- Words that are numbers or octets.
+pub mod Line
+pub mod Numeral
+pub mod OctetWord
