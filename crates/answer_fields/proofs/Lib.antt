@@ -1,4 +1,4 @@
--- The laws of an answer's fields.
+-- The laws of an answer's fields. Assumes nothing.
 pub mod Laying
 pub mod Passes
 pub mod Filling

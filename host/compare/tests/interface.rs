@@ -34,7 +34,10 @@ fn sources(name: &str) -> String {
     let entries = fs::read_dir(&folder);
     let entries = entries.unwrap_or_else(|error| panic!("{}: {error}", folder.display()));
     let files = entries.map(|entry| entry.expect("an entry of the folder").path());
-    files.filter(|path| path.extension().is_some_and(|end| end == "rt")).map(|path| text(&path)).collect()
+    files
+        .filter(|path| path.extension().is_some_and(|end| end == "rt"))
+        .map(|path| text(&path))
+        .collect()
 }
 
 /// The structs stand in one crate, the functions in another.
