@@ -20,7 +20,7 @@ use Rattle.order.proofs.Simulate.{good-after, simulated-answers, simulated-end,
 use Rattle.client_rules.specs.Call.{Call, clearTable, openOne, closeOne, poll, sent, receive, loopVerdict, publish, Typed, Answer, plainAnswer, refusalAnswer, pollAnswer, receiveAnswer, formOf}
 use Rattle.client_rules.specs.Octets.{tableOctets, clearOctets, stepOctets}
 use Rattle.client_rules.specs.Plain.{closedTable, atPlace, stepPlain, encodeAll}
-use Rattle.client_rules.specs.Observe.{Seen, done, watched}
+use Rattle.client_rules.specs.Observe.{Observation, done, watched}
 use Rattle.client_rules.specs.Claim.{cleared, reached, Demand3}
 use Rattle.client_rules.proofs.Tables.{GoodTable, part-all, good-at, good-start, start-zeros}
 use Rattle.client_rules.proofs.Simulate.{good-form, good-response, at-in, at-out, form-simulated}
@@ -37,11 +37,11 @@ simulates = record {
 
 -- ---- the observer
 
-abbrev pub AllWatched : List Place → List Seen → Type 0
+abbrev pub AllWatched : List Place → List Observation → Type 0
 AllWatched ps seen = (a : ℕ) → a < 16 → Watched (getD ps a closed) a seen
 
 -- a call that changes one place
-one-watched : (c : Call) (b : ℕ) (e : Event) (datagram : List ℕ) (told : Reply → Answer) (ps : List Place) (seen : List Seen)
+one-watched : (c : Call) (b : ℕ) (e : Event) (datagram : List ℕ) (told : Reply → Answer) (ps : List Place) (seen : List Observation)
     → GoodTable ps → AllWatched ps seen
     → ((a : ℕ) (w : Answer) → eqb b a ≡ false → Silent a (entry c w) seen)
     → ((p : Place) → p ≡ getD ps b closed → Watched p b seen → After b seen c told (placeDo e datagram p))
@@ -69,7 +69,7 @@ one-watched c b e datagram told ps seen g h other own a l = inside (ltb b 16) re
         (kept (getD ps a closed) a _ seen (other a (told (plainReply 6)) (ne-eqb b a (λ z. omega arith))) (h a l))
 
 -- a call that changes no place
-none-watched : (c : Call) (w : Answer) (ps : List Place) (seen : List Seen) → ((a : ℕ) → Silent a (entry c w) seen) → AllWatched ps seen
+none-watched : (c : Call) (w : Answer) (ps : List Place) (seen : List Observation) → ((a : ℕ) → Silent a (entry c w) seen) → AllWatched ps seen
     → AllWatched ps (entry c w ∷ seen)
 none-watched c w ps seen s h a l = kept (getD ps a closed) a (entry c w) seen (s a) (h a l)
 
@@ -78,14 +78,14 @@ closed-at zero a = refl
 closed-at (suc n) zero = refl
 closed-at (suc n) (suc a) = closed-at n a
 
-pub closed-watched : (seen : List Seen) → AllWatched closedTable seen
+pub closed-watched : (seen : List Observation) → AllWatched closedTable seen
 closed-watched seen a l = subst⁻¹ (λ (p : Place). Watched p a seen) (closed-at 16 a) tt
 
 -- another association's call was not done by this one
 not-done : (a b : ℕ) (w : Answer) → eqb b a ≡ false → done a b w ≡ false
 not-done a b w e = rw e
 
-pub step-watched : (c : Call) (ps : List Place) (seen : List Seen) → Typed c → GoodTable ps → AllWatched ps seen
+pub step-watched : (c : Call) (ps : List Place) (seen : List Observation) → Typed c → GoodTable ps → AllWatched ps seen
     → AllWatched (stepPlain c ps .1) (entry c (stepPlain c ps .0) ∷ seen)
 step-watched clearTable ps seen t g h = closed-watched _
 step-watched (openOne b timescale c) ps seen t g h =
@@ -106,7 +106,7 @@ step-watched (receive b datagram t4) ps seen t g h =
 step-watched (loopVerdict b id) ps seen t g h = none-watched _ _ ps seen (λ a. silent-verdict a _ seen b id) h
 step-watched (publish selected id out) ps seen t g h = none-watched _ _ ps seen (λ a. silent-publish a _ seen selected id out) h
 
-pub run-watched : (cs : List (TaggedCall Call)) (ps : List Place) (seen : List Seen) → EveryCall Typed cs → GoodTable ps → AllWatched ps seen
+pub run-watched : (cs : List (TaggedCall Call)) (ps : List Place) (seen : List Observation) → EveryCall Typed cs → GoodTable ps → AllWatched ps seen
     → AllWatched (after stepPlain cs ps) (watched stepPlain cs ps seen)
 unfolding after watched
 run-watched [] ps seen t g h = h
@@ -114,7 +114,7 @@ run-watched (x ∷ cs) ps seen t g h =
     run-watched cs (stepPlain (x .call) ps .1) _ (t .1) (simulates .invariant (x .call) ps (t .0) g) (step-watched (x .call) ps seen (t .0) g h)
 
 -- the observer sees the same on octets
-watched-same : (cs : List (TaggedCall Call)) (ps : List Place) (seen : List Seen) → EveryCall Typed cs → GoodTable ps
+watched-same : (cs : List (TaggedCall Call)) (ps : List Place) (seen : List Observation) → EveryCall Typed cs → GoodTable ps
     → watched stepOctets cs (encodeAll ps) seen ≡ watched stepPlain cs ps seen
 unfolding watched
 watched-same [] ps seen t g = refl

@@ -11,29 +11,29 @@ use lib.ListN.{getD}
 use Rattle.association.specs.Plain.{Outstanding, Opened, Place, closed, opened}
 use Rattle.association.specs.Encode.{countTaken}
 use Rattle.client_rules.specs.Call.{Call, clearTable, openOne, closeOne, poll, sent, receive, loopVerdict, publish, Answer}
-use Rattle.client_rules.specs.Observe.{Seen, done, tookChunk, askedOffset, observedOctet, chunksTaken}
+use Rattle.client_rules.specs.Observe.{Observation, done, tookChunk, askedOffset, observedOctet, chunksTaken}
 
-abbrev pub AskedFor : ℕ → List Seen → Option Outstanding → Type 0
+abbrev pub AskedFor : ℕ → List Observation → Option Outstanding → Type 0
 AskedFor a seen none = Unit {0}
 AskedFor a seen (some q) = q .offset ≡ askedOffset a seen
 
 -- what is seen of an open place
-pub record Watching (o : Opened) (a : ℕ) (seen : List Seen) : Type 0 where
+pub record Watching (o : Opened) (a : ℕ) (seen : List Observation) : Type 0 where
   pub octets : (i : ℕ) → i < 512 → getD (o .filter) i 0 ≡ observedOctet a i seen
   pub asked : AskedFor a seen (o .outstanding)
   pub chunks : countTaken (o .taken) ≡ min 512 (chunksTaken a seen * o .chunk)
 
-abbrev pub Watched : Place → ℕ → List Seen → Type 0
+abbrev pub Watched : Place → ℕ → List Observation → Type 0
 Watched closed a seen = Unit {0}
 Watched (opened o) a seen = Watching o a seen
 
 -- a call after which the observer says of an association what was said before
-pub record Silent (a : ℕ) (e : Seen) (seen : List Seen) : Type 0 where
+pub record Silent (a : ℕ) (e : Observation) (seen : List Observation) : Type 0 where
   pub asked : askedOffset a (e ∷ seen) ≡ askedOffset a seen
   pub octet : (i : ℕ) → observedOctet a i (e ∷ seen) ≡ observedOctet a i seen
   pub chunks : chunksTaken a (e ∷ seen) ≡ chunksTaken a seen
 
-abbrev pub entry : Call → Answer → Seen
+abbrev pub entry : Call → Answer → Observation
 entry c w = record { call = c; answer = w }
 
 pub and-false : (b : Bool) → b && false ≡ false
@@ -41,7 +41,7 @@ and-false true = refl
 and-false false = refl
 
 -- one that was not done by this association, as its test says
-module _ (a : ℕ) (w : Answer) (seen : List Seen) where
+module _ (a : ℕ) (w : Answer) (seen : List Observation) where
   pub silent-open : (b timescale c : ℕ) → done a b w ≡ false → Silent a (entry (openOne b timescale c) w) seen
   unfolding askedOffset observedOctet chunksTaken
   silent-open b timescale c e = record { asked = refl; octet = λ i. rw e; chunks = rw e }
@@ -85,12 +85,12 @@ module _ (a : ℕ) (w : Answer) (seen : List Seen) where
   refused (loopVerdict b id) e = silent-verdict b id
   refused (publish selected id out) e = silent-publish selected id out
 
-asked-kept : (a : ℕ) (e : Seen) (seen : List Seen) (q : Option Outstanding) → Silent a e seen → AskedFor a seen q → AskedFor a (e ∷ seen) q
+asked-kept : (a : ℕ) (e : Observation) (seen : List Observation) (q : Option Outstanding) → Silent a e seen → AskedFor a seen q → AskedFor a (e ∷ seen) q
 asked-kept a e seen none s h = tt
 asked-kept a e seen (some q) s h = h ∙ sym (s .asked)
 
 -- a silent call, and a place that stays
-pub kept : (p : Place) (a : ℕ) (e : Seen) (seen : List Seen) → Silent a e seen → Watched p a seen → Watched p a (e ∷ seen)
+pub kept : (p : Place) (a : ℕ) (e : Observation) (seen : List Observation) → Silent a e seen → Watched p a seen → Watched p a (e ∷ seen)
 kept closed a e seen s h = tt
 kept (opened o) a e seen s h = record {
   octets = λ i l. h .octets i l ∙ sym (s .octet i);
