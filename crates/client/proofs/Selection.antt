@@ -6,12 +6,10 @@ use Prim.Native.Nat.{ℕ, suc, _+_, _-_, _/_, _%_, _^_, _<_, _≤_}
 use native.Mathlib.Numerals.{add-one}
 use native.Mathlib.Omega.{arith}
 use lib.Dec.{eqb}
-use lib.ListN.{length}
 use lib.Pow.{shr-shr}
-use Rattle.filter.specs.Filter.{union, ofId}
-use Rattle.filter.proofs.Uniting.{length-union}
+use Rattle.filter.specs.Filter.{union}
 use Rattle.client_rules.specs.Call.{bit}
-use Rattle.client_rules.specs.Select.{Seen, allSelected, inRangeSeen, completeSeen, joined, publishedFilter}
+use Rattle.client_rules.specs.Select.{Seen, allSelected, inRangeSeen, completeSeen, joined}
 use Rattle.client.specs.Answers.{selectionRefusal}
 
 -- the bit of an association, once those before it were shifted out
@@ -67,15 +65,6 @@ left-end test see selected a sofar h k l =
 pub join-end : (see : ℕ → Seen) (selected a : ℕ) (f : List ℕ) → a ≡ 16 → joined see f selected (16 - a) a ≡ f
 unfolding joined
 join-end see selected a f e = rw e
-
--- none selected: the own ID alone
-pub none-selected : (see : ℕ → Seen) (id : List ℕ) → publishedFilter see 0 id ≡ ofId id
-unfolding joined
-none-selected see id = refl
-
-pub kept : (picked : Bool) (f g : List ℕ) → length (cond picked (union f g) f) ≡ length f
-kept true f g = length-union f g
-kept false f g = refl
 
 -- the number of a selection, by the tests that led to it
 module _ (see : ℕ → Seen) (selected : ℕ) where
