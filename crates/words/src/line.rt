@@ -1,6 +1,6 @@
 // The words of a line, by their places in it or by their letters in a row. The remainders only say that a number fits.
 use crate::number::read;
-use header::sign::from_octet;
+use octets::sign::from_octet;
 use text::find;
 use text::piece;
 ghost use mathlib.Core.Path.{_≡_};
