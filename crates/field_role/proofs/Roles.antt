@@ -1,6 +1,6 @@
 -- Three flags tell what a responder has to know of the fields before, and what a role says of its field. Assumes nothing.
 use mathlib.Core.Path.{_≡_, refl, sym, ap, _∙_}
-use mathlib.Core.Bool.{Bool, true, false, cond, _&&_, _||_, false≢true}
+use mathlib.Core.Bool.{Bool, true, false, cond, _&&_, _||_, false≢true, or-assoc, or-false}
 use mathlib.Core.List.{List, [], _∷_, _++_}
 use Prim.Native.Nat.{ℕ, _+_, _%_, _≤_}
 use native.Mathlib.Omega.{arith}
@@ -24,14 +24,6 @@ metOf before = record {
 pub met-none : metOf [] ≡ noneMet
 unfolding alreadyMet
 met-none = refl
-
-or-assoc : (a b c : Bool) → a || b || c ≡ a || (b || c)
-or-assoc true b c = refl
-or-assoc false b c = refl
-
-or-false : (a : Bool) → a || false ≡ a
-or-false true = refl
-or-false false = refl
 
 met-last : (kind : ℕ) (before : List Field) (f : Field) → alreadyMet kind (before ++ (f ∷ [])) ≡ alreadyMet kind before || eqb (f .kind) kind
 unfolding alreadyMet

@@ -1,6 +1,6 @@
 -- Records and their octets: what is read in the ones is read in the others. Assumes nothing.
 use mathlib.Core.Path.{_≡_, refl, sym, ap, _∙_}
-use mathlib.Core.Bool.{Bool, true, false}
+use mathlib.Core.Bool.{Bool, true, false, or-false}
 use mathlib.Core.List.{List, [], _∷_, _++_}
 use Prim.Native.Nat.{ℕ, zero, suc, _+_, _*_, _%_, _<_}
 use native.Mathlib.Omega.{arith}
@@ -12,7 +12,6 @@ use Rattle.octets.specs.Number.{Octets, num, octets, getAt, putAt}
 use Rattle.octets.proofs.Written.{both-octets, number-octets}
 use Rattle.store_rules.specs.Row.{Record, usedOf, rowOctets, recordsFrom, recordsOf, sizeOf, rowOf, wrongSize, wrongStore}
 use Rattle.store_rules.specs.Place.{indexOf, placeOf}
-use Rattle.store_rules.proofs.Rows.{or-false}
 use Rattle.store_rules.proofs.Written.{AllFit, length-row, records-read}
 use Rattle.store_rules.proofs.Places.{put-cookie}
 use Rattle.records.specs.Records.{vacant, wrongCount, wrongRecords}

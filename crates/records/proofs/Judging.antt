@@ -1,6 +1,6 @@
 -- A pass over the records that looks for what is wrong: what is left to say once some are seen. Assumes nothing.
 use mathlib.Core.Path.{_≡_, refl, sym, _∙_}
-use mathlib.Core.Bool.{Bool, true, false, cond, not, _&&_, _||_}
+use mathlib.Core.Bool.{Bool, true, false, cond, not, _&&_, _||_, or-false}
 use mathlib.Core.List.{List, [], _∷_}
 use Prim.Native.Nat.{ℕ, _+_, _<_, _≤_}
 use native.Mathlib.Omega.{arith}
@@ -9,7 +9,7 @@ use lib.Dec.{eqb, ltb}
 use lib.ListN.{length, getD, drop, length-drop, drop-of-length-le}
 use Rattle.store_rules.specs.Row.{Record, held, allUnused, soundRecords}
 use Rattle.store_rules.specs.Place.{indexOf}
-use Rattle.store_rules.proofs.Rows.{or-false, held-index}
+use Rattle.store_rules.proofs.Rows.{held-index}
 use Rattle.records.specs.Records.{recordOf, recordsIn, wrongCount, wrongRecords}
 use Rattle.records.specs.Value.{seenAfter}
 use Rattle.records.specs.declared.Record.{Record as Slot}

@@ -1,13 +1,13 @@
 -- Records that aren't wrong are the row and then unused ones. Assumes nothing.
 use mathlib.Core.Path.{_≡_, refl, sym, ap, _∙_}
-use mathlib.Core.Bool.{Bool, true, false, cond, not, _&&_, and-eq-true-iff}
+use mathlib.Core.Bool.{Bool, true, false, cond, not, _&&_, and-eq-true-iff, or-false}
 use mathlib.Core.List.{List, [], _∷_, _++_}
 use Prim.Native.Nat.{ℕ}
 use borrow.Author.Tests.{eqb-true, ne-eqb, not-true, not-false}
 use lib.Dec.{eqb}
 use lib.ListN.{length}
 use Rattle.store_rules.specs.Row.{Record, held, timeOf, unused, allUnused, usedOf, soundRecords}
-use Rattle.store_rules.proofs.Rows.{or-false, or-none, held-append, time-append}
+use Rattle.store_rules.proofs.Rows.{or-none, held-append, time-append}
 use Rattle.records.specs.Records.{wrongCount, wrongRecords}
 
 -- an unused record has cookie 0 and time 0

@@ -1,6 +1,6 @@
 -- What is read in a store's octets is what its row says, and each change of the octets is the row's. Assumes nothing.
 use mathlib.Core.Path.{_≡_, refl, sym, ap, _∙_}
-use mathlib.Core.Bool.{Bool, true, false, cond}
+use mathlib.Core.Bool.{Bool, true, false, cond, or-false}
 use mathlib.Core.List.{List, [], _∷_, _++_, append-assoc, append-nil}
 use Prim.Native.Nat.{ℕ, zero, suc, _+_, _-_, _*_, _/_, _<_, _≤_}
 use native.Mathlib.Nat.{zero-add, add-zero}
@@ -11,7 +11,7 @@ use lib.ListN.{length, drop, length-append, replicate-append-replicate}
 use Rattle.octets.specs.Number.{getAt, putAt}
 use Rattle.store_rules.specs.Row.{Record, held, timeOf, reported, without, joined, rowOctets, storeOctets, recordsOf}
 use Rattle.store_rules.specs.Place.{indexOf, placeOf, removed, joinedOctets}
-use Rattle.store_rules.proofs.Rows.{or-false, SoundRow, unusedRecord, unusedRow, Parted, part-row, held-index, index-most, held-append, index-append, index-past, time-append}
+use Rattle.store_rules.proofs.Rows.{SoundRow, unusedRecord, unusedRow, Parted, part-row, held-index, index-most, held-append, index-append, index-past, time-append}
 use Rattle.store_rules.proofs.Written.{store-row}
 use Rattle.store_rules.proofs.Stores.{Stores, held-unused, length-padded}
 use Rattle.store_rules.proofs.Places.{put-cookie, put-time, remove-record, time-read}

@@ -1,6 +1,6 @@
 -- A fresh cookie joins a sound row: the row stays sound and within its size, and each cookie that is kept keeps its time. Assumes nothing.
 use mathlib.Core.Path.{_≡_, refl, sym, ap, _∙_}
-use mathlib.Core.Bool.{Bool, true, false, cond, _||_, true≢false}
+use mathlib.Core.Bool.{Bool, true, false, cond, _||_, or-true, true≢false, or-false}
 use mathlib.Core.Logic.{_⊎_, inl, inr}
 use mathlib.Core.List.{List, [], _∷_, _++_}
 use Prim.Native.Nat.{ℕ, _<_, _≤_, _^_}
@@ -9,7 +9,7 @@ use borrow.Author.Tests.{eq-eqb, ne-eqb, eqb-true, eqb-false, ltb-true}
 use lib.Dec.{eqb, ltb}
 use lib.ListN.{length, drop, length-append, length-drop}
 use Rattle.store_rules.specs.Row.{Record, held, timeOf, joined}
-use Rattle.store_rules.proofs.Rows.{or-false, or-none, SoundRow, sound-before, held-append, time-append, time-absent}
+use Rattle.store_rules.proofs.Rows.{or-none, SoundRow, sound-before, held-append, time-append, time-absent}
 
 abbrev fresh : ℕ → List Record
 fresh c = record { cookie = c; time = 0 } ∷ []
@@ -93,11 +93,7 @@ module _ (n c : ℕ) (row : List Record) where
 
   -- the fresh one is there
   pub held-joined-fresh : held c (joined n c row) ≡ true
-  held-joined-fresh = held-either c ∙ rw (eq-eqb c c refl) (go (held c (kept (ltb (length row) n) row)))
-    where
-      go : (b : Bool) → b || true ≡ true
-      go true = refl
-      go false = refl
+  held-joined-fresh = held-either c ∙ rw (eq-eqb c c refl) (or-true (held c (kept (ltb (length row) n) row)))
 
   -- the fresh cookie has no time
   pub time-joined-fresh : held c row ≡ false → timeOf c (joined n c row) ≡ 0

@@ -11,11 +11,7 @@ use lib.ListN.{length, replicate}
 use Rattle.store_rules.specs.Row.{Record, held, timeOf, reported, without}
 use Rattle.store_rules.specs.Place.{indexOf}
 
--- ---- two tests, one of which fails, and both
-
-pub or-false : (b : Bool) → b || false ≡ b
-or-false true = refl
-or-false false = refl
+-- ---- two tests, both of which fail
 
 pub or-none : (a b : Bool) → a || b ≡ false → (a ≡ false) × (b ≡ false)
 or-none true b e = absurd (true≢false e)
