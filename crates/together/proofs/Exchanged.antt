@@ -1,28 +1,31 @@
 -- The client accepts our responder's answer to its poll, and takes its chunk. Assumes nothing.
 use mathlib.Core.Path.{_≡_, sym, ap, _∙_, subst}
 use mathlib.Core.List.{List}
-use Prim.Native.Nat.{ℕ, _+_, _-_, _*_, _^_, _≤_, _<_}
+use Prim.Native.Nat.{ℕ, _+_, _-_, _^_, _≤_, _<_}
 use native.Mathlib.Omega.{arith}
+use borrow.Author.Tests.{eq-eqb}
 use lib.ListN.{length, getD, set, drop}
 use lib.Seq.{take-at, getD-take, getD-drop, getD-set-same, paste}
 use Rattle.octets.proofs.Numbers.{num-left}
 use Rattle.poll_request.specs.Request.{pollOctets}
 use Rattle.exchange.specs.Response.{responseOf}
 use Rattle.exchange.specs.Judging.{outcomeOf}
+use Rattle.poll_request.specs.Request.{offsetPlace, pollLength}
 use Rattle.poll_request.specs.declared.Asked.{Asked}
 use Rattle.exchange.specs.declared.response.Response.{Response}
 use Rattle.poll_request.proofs.Polls.{poll-offset}
-use Rattle.association.specs.Plain.{Opened, Outstanding, Place, closed, opened, received, replyOf, placeDo}
-use Rattle.association.specs.Encode.{placeFilter}
+use Rattle.state.specs.Plain.{Opened, Outstanding, Place, closed, opened, received, replyOf, placeDo, placeFilter}
 use Rattle.state.specs.declared.event.Event.the-variants.{Receive}
 use Rattle.state.specs.declared.event.Reply.{Reply}
+use Rattle.association.proofs.Responses.{copied, taken-length}
 use Rattle.association.proofs.Reached.{GoodPlace, GoodOpened}
 use Rattle.order.specs.Order.{after}
 use Rattle.client_rules.specs.Call.{receive, Typed, Answer, receiveAnswer}
-use Rattle.client_rules.specs.Plain.{closedTable, stepPlain, encodeAll}
+use Rattle.client_rules.specs.Octets.{filterPlace, encodeAll}
+use Rattle.client_rules.specs.Plain.{closedTable, stepPlain}
 use Rattle.client_rules.specs.Claim.{placeAfter}
 use Rattle.client_rules.proofs.Tables.{GoodTable, good-at}
-use Rattle.client_rules.proofs.Simulate.{at-in}
+use Rattle.client_rules.proofs.Simulate.{at-in, good-response}
 use Rattle.client_rules.proofs.Pasted.{within}
 use Rattle.client_rules.proofs.Demand3.{simulates, good-reached, call-reached, octet-at}
 use Rattle.client_rules.proofs.Demand2.{accepts}
@@ -63,12 +66,12 @@ module _ (k : Polling) (h : Asks k) (g : Given) (store out : List ℕ) (n : Answ
   abbrev poll : List ℕ
   poll = pollOctets q (k .cookie) (k .exponent) (k .interleaved)
 
-  poll-long : length poll ≡ 84 + q .chunk
+  poll-long : length poll ≡ pollLength (q .chunk)
   poll-long = polled-size q (k .cookie) (k .exponent) (k .interleaved) (w .ranges .good)
 
   -- the request is what the poll wrote
   request : g .request ≡ poll
-  request = n .request ∙ rw (w .answer) (take-at poll (drop (84 + q .chunk) (k .out)) (84 + q .chunk) poll-long)
+  request = n .request ∙ rw (w .answer) (take-at poll (drop (pollLength (q .chunk)) (k .out)) (pollLength (q .chunk)) poll-long)
 
   passes : answerRefusal g store out ≡ 0
   passes = sym (answer-number g store out) ∙ n .taken
@@ -126,7 +129,12 @@ module _ (k : Polling) (h : Asks k) (g : Given) (store out : List ℕ) (n : Answ
 
     -- the filter that is left
     filter-left : received r answer o asked .filter ≡ paste (o .filter) (q .offset) (chunkAsked q (g .filter)) (q .chunk)
-    filter-left = rw (taken, chunk-octets q (k .cookie) (g .filter) answer t4 serves, w .waits .offset, w .waits .chunk)
+    filter-left =
+        let opens : GoodOpened o = subst GoodPlace (w .waits .waiting) (good-at places a (good .all)) in
+        let inside = w .ranges .good .inside in
+        let room : asked .offset + o .chunk ≤ 512 = rw (w .waits .offset, w .waits .chunk) inside in
+        rw (taken) (copied r answer (o .filter) (asked .offset) (o .chunk) (opens .filter) room (good-response answer t4 (serves .octets) fits) (taken-length r (o .chunk) (eq-eqb _ _ taken))
+        ∙ rw (chunk-octets q (k .cookie) (g .filter) answer t4 serves, w .waits .offset, w .waits .chunk))
 
     -- octet i of it is the server's
     octet-left : (i : ℕ) → q .offset ≤ i → i < q .offset + q .chunk → getD (received r answer o asked .filter) i 0 ≡ getD (g .filter) i 0
@@ -146,19 +154,19 @@ module _ (k : Polling) (h : Asks k) (g : Given) (store out : List ℕ) (n : Answ
     offset-written =
         let inside = w .ranges .good .inside in
         let least = w .ranges .good .least in
-        rw (w .answer) (num-left poll (drop (84 + q .chunk) (k .out)) 84 2 (omega (arith, poll-long)) ∙ poll-offset q (k .cookie) (k .exponent) (k .interleaved) (omega arith))
+        rw (w .answer) (num-left poll (drop (pollLength (q .chunk)) (k .out)) offsetPlace 2 (omega (arith, poll-long)) ∙ poll-offset q (k .cookie) (k .exponent) (k .interleaved) (omega arith))
 
     chunk-written : chunkOf k ≡ q .chunk
     chunk-written = rw (w .answer) (omega arith)
 
-    filter-taken : (i : ℕ) → offsetOf k ≤ i → i < offsetOf k + chunkOf k → getD (receiving k answer t4 .1) (a * 640 + (128 + i)) 0 ≡ getD (g .filter) i 0
+    filter-taken : (i : ℕ) → offsetOf k ≤ i → i < offsetOf k + chunkOf k → getD (receiving k answer t4 .1) (filterPlace a i) 0 ≡ getD (g .filter) i 0
     filter-taken i l m =
         let inside = w .ranges .good .inside in
         let at = offset-written in
         let c = chunk-written in
         let next = opened (received r answer o asked) in
         let u : a < length places = omega (arith, good .sixteen, w .inside) in
-        ap (λ (x : Answer × List ℕ). getD (x .1) (a * 640 + (128 + i)) 0) came
+        ap (λ (x : Answer × List ℕ). getD (x .1) (filterPlace a i) 0) came
         ∙ octet-at (set places a next) a i good-after (w .inside) (omega arith)
         ∙ ap (λ (p : Place). getD (placeFilter p) i 0) (getD-set-same places a next closed u) ∙ octet-left i (omega arith) (omega arith)
 

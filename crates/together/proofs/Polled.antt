@@ -9,14 +9,15 @@ use lib.Dec.{eqb, ltb}
 use lib.IntN.{ℤ}
 use lib.ListN.{length, getD, set, drop}
 use lib.Seq.{getD-set-same}
-use Rattle.poll_request.specs.Request.{pollOctets}
+use Rattle.poll_request.specs.Request.{pollOctets, pollLength}
 use Rattle.poll_request.specs.declared.Asked.{Asked}
-use Rattle.association.specs.Plain.{Opened, Place, closed, opened, polled as polledPlace, placeDo}
+use Rattle.state.specs.Plain.{Opened, Place, closed, opened, polled as polledPlace, placeDo}
 use Rattle.state.specs.declared.event.Event.{Event}
 use Rattle.state.specs.declared.event.Event.the-variants.{Poll}
 use Rattle.state.specs.declared.event.Reply.{Reply}
 use Rattle.state.proofs.Chunks.{chunk-size}
-use Rattle.association.proofs.Reached.{GoodPlace, GoodOpened, good-step}
+use Rattle.association.proofs.Reached.{GoodPlace, GoodOpened, ranges as open-ranges, good-step}
+use Rattle.association.proofs.Encoding.{place-fits}
 use Rattle.order.specs.Order.{TaggedCall, after, EveryCall}
 use Rattle.order.proofs.Permutations.{every-left, every-right}
 use Rattle.order.proofs.Simulate.{after-append}
@@ -38,7 +39,7 @@ pub record Written (k : Polling) : Type 0 where
   pub ranges : Ranges asked (k .cookie) (k .exponent)
   -- what is written
   pub answer : polled k
-      ≡ writtenAnswer (84 + asked .chunk) (pollOctets asked (k .cookie) (k .exponent) (k .interleaved) ++ drop (84 + asked .chunk) (k .out))
+      ≡ writtenAnswer (pollLength (asked .chunk)) (pollOctets asked (k .cookie) (k .exponent) (k .interleaved) ++ drop (pollLength (asked .chunk)) (k .out))
   -- the place waits for its answer
   pub waits : Waits asked (k .cookie) (placeAfter (callsOf k) (k .association))
 
@@ -112,14 +113,15 @@ module _ (k : Polling) (h : Asks k) where
 
   ranges : Ranges (askedOf (k .interleaved) o) (k .cookie) (k .exponent)
   ranges =
-      let size = chunk-size (o .chunk) (good-before .offers) in
+      let before = open-ranges o good-before in
+      let size = chunk-size (o .chunk) (before .chunk) in
       let low = size .low in
       record {
-        good = record { four = size .fours; least = omega arith; inside = good-before .next .fits };
-        timescale = good-before .timescale;
+        good = record { four = size .fours; least = omega arith; inside = before .next-ends };
+        timescale = before .timescale;
         poll = later-typed .0 .2;
         client = later-typed .0 .1;
-        server = good-polled .outstanding .server;
+        server = place-fits (opened (polledPlace (k .cookie) (k .interleaved) o)) good-polled .server;
       }
 
   -- the place once it was polled

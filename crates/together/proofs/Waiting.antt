@@ -3,19 +3,21 @@ use mathlib.Core.Path.{_≡_, refl, sym, ap, _∙_, subst, subst⁻¹}
 use mathlib.Core.Bool.{Bool, true, false, not, _||_}
 use mathlib.Core.List.{List, [], _∷_}
 use mathlib.Core.Option.{some}
-use Prim.Native.Nat.{ℕ, _+_, _<_}
+use Prim.Native.Nat.{ℕ, _<_}
 use native.Mathlib.Omega.{arith}
 use borrow.Author.Tests.{eqb-true, eqb-false, not-true}
 use lib.Dec.{eqb, ltb}
 use lib.ListN.{length, getD, set}
 use lib.Seq.{getD-set-same}
+use Rattle.poll_request.specs.Request.{pollLength}
 use Rattle.poll_request.specs.declared.Asked.{Asked}
 use Rattle.state.specs.Rules.{pollReply}
-use Rattle.association.specs.Plain.{Outstanding, Opened, Place, closed, opened, polled, reported, sentCookie, isLast, placeDo}
+use Rattle.state.specs.Plain.{Outstanding, Opened, Place, closed, opened, polled, reported, sentCookie, isLast, placeDo}
 use Rattle.state.specs.declared.event.Event.{Event}
 use Rattle.state.specs.declared.event.Event.the-variants.{Poll, Sent}
 use Rattle.state.specs.declared.event.Reply.{Reply}
-use Rattle.association.proofs.Reached.{by-test, by-request}
+use Rattle.association.proofs.Responses.{by-test}
+use Rattle.association.proofs.Reached.{by-request}
 use Rattle.order.specs.Order.{TaggedCall, after, EveryCall}
 use Rattle.client_rules.specs.Call.{Call, clearTable, openOne, closeOne, poll, sent, receive, loopVerdict, publish, Typed}
 use Rattle.client_rules.specs.Plain.{atPlace, stepPlain}
@@ -43,7 +45,7 @@ polled-place cookie interleaved room closed z = absurd (omega arith)
 polled-place cookie interleaved room (opened o) z =
     let P : Reply × Place → Type 0 = λ w. w .0 .refusal ≡ 0 → Polled cookie interleaved (opened o) w in
     by-test P (eqb cookie 0 || isLast cookie (o .last)) (λ t z. absurd (omega arith))
-    (λ t. by-test P (ltb room (84 + o .chunk)) (λ u z. absurd (omega arith))
+    (λ t. by-test P (ltb room (pollLength (o .chunk))) (λ u z. absurd (omega arith))
     (λ u z. record { place = o; before = refl; reply = refl; left = refl })) z
 
 -- a place waits for the answer to a request

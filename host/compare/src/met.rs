@@ -1,6 +1,7 @@
 //! What the calls led to, counted, and what must have been met.
 
 use crate::call::{Call, Returned, Told};
+use crate::make::head::Clause;
 use reference::association::CHUNK_SIZES;
 use reference::chain::Fields;
 use reference::header::INTERLEAVED;
@@ -148,7 +149,8 @@ const OUTCOMES: [&str; 18] = [
     "also: answer from a full row, interleaved",
 ];
 
-/// Every refusal of every call, every judgement with every chunk outcome, every verdict.
+/// Every refusal of every call, every judgement with every chunk outcome, every verdict,
+/// 6 for every clause of a head's rule.
 fn required() -> Vec<String> {
     let mut required: Vec<String> = OUTCOMES.map(String::from).to_vec();
     for (call, numbers) in REFUSALS {
@@ -159,6 +161,9 @@ fn required() -> Vec<String> {
             let chunk = |chunk| format!("receive 0 {mode} judgement {judgement} chunk {chunk}");
             required.extend((1..=3).map(chunk));
         }
+    }
+    for clause in Clause::ALL {
+        required.push(format!("also: head out of range: {clause:?}"));
     }
     for c in CHUNK_SIZES {
         required.push(format!("also: second turn of the filter with c = {c}"));

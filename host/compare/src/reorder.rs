@@ -10,7 +10,7 @@ use reference::lent::TABLE_OCTETS;
 
 /// The associations that a call names, a bit for each. Clearing names all,
 /// publishing those it selects; an association above 15 is none.
-fn names(call: &Call) -> u16 {
+pub(crate) fn names(call: &Call) -> u16 {
     match *call {
         Call::Clear => u16::MAX,
         Call::Open { association, .. }

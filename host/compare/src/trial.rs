@@ -4,9 +4,12 @@ use crate::call::{Call, Returned, Side, Told};
 use crate::library::Library;
 use crate::line;
 use crate::make;
+use crate::make::head::Clause;
+use crate::make::lent::Broken;
 use crate::met::Met;
 use crate::plain::{Lent, Plain};
 use crate::random::Random;
+use crate::reorder;
 
 /// One list of calls on the sides that are compared.
 struct Trial {
@@ -118,7 +121,7 @@ fn noted(call: &Call, told: &Told, before: &Plain, records: usize) -> Option<Str
 /// A few calls on any octets.
 fn any(kind: Kind, random: &mut Random, keep: bool, met: &mut Met) -> Result<u64, String> {
     let on_table = kind == Kind::AnyTable;
-    let table = if on_table { make::lent::table(random) } else { Vec::new() };
+    let (table, mut broken) = if on_table { make::lent::table(random) } else { Default::default() };
     let store = if on_table { Vec::new() } else { make::lent::store(random) };
     let lent = || match kind {
         Kind::AnyTable => format!("# on a table with these octets: {}", line::octets(&table)),
@@ -141,9 +144,24 @@ fn any(kind: Kind, random: &mut Random, keep: bool, met: &mut Met) -> Result<u64
             (false, true) => Call::StoreClear,
             (false, false) => make::responder::call(random, &make::lent::known_row(&side.store)),
         };
-        trial.compare(&call, &mut side, met)?;
+        let told = trial.compare(&call, &mut side, met)?;
+        if call == Call::Clear {
+            broken = Broken::default();
+        }
+        if let Some(clause) = refused_for(&call, &told, &broken) {
+            met.also(&format!("head out of range: {clause:?}"));
+        }
     }
     Ok(length as u64)
+}
+
+/// The clause that is broken in the one head that a refused call was to read.
+fn refused_for(call: &Call, told: &Told, broken: &Broken) -> Option<Clause> {
+    let named = reorder::names(call);
+    if told.returned.refusal() != 6 || !named.is_power_of_two() {
+        return None;
+    }
+    broken[named.trailing_zeros() as usize]
 }
 
 impl Trial {

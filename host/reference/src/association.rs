@@ -18,6 +18,16 @@ impl Taken {
     /// None was taken.
     pub const NONE: Taken = Taken([0; OCTETS / 64]);
 
+    /// The first `count` octets were taken, at most 512.
+    pub fn first(count: usize) -> Self {
+        let mut taken = Taken::NONE;
+        taken.0[..count / 64].fill(u64::MAX);
+        if let Some(flags) = taken.0.get_mut(count / 64) {
+            *flags = (1 << (count % 64)) - 1;
+        }
+        taken
+    }
+
     /// Marks `n` octets from `from` on; both below 513.
     pub fn mark(&mut self, from: usize, n: usize) {
         if n >= 64 {

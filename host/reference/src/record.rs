@@ -18,7 +18,8 @@ pub const OCTETS: usize = 8 * NUMBERS + FILTER_OCTETS;
 /// The head's numbers, in the order of their places.
 type Head = [u64; NUMBERS];
 
-/// Reads a record; 6 if one of its numbers is out of range.
+/// Reads a record; 6 if one of its numbers is out of range, that is if no calls on a
+/// cleared table lead to its head. The filter's octets are not looked at.
 pub fn decode(record: &[u8; OCTETS]) -> Result<Place, Refusal> {
     let (octets, filter) = record.split_at(8 * NUMBERS);
     let mut head: Head = [0; NUMBERS];
@@ -32,7 +33,7 @@ pub fn decode(record: &[u8; OCTETS]) -> Result<Place, Refusal> {
     Ok(Place(Some(open)))
 }
 
-/// The association of an open record, if each number is in its range.
+/// The association of an open record, if calls on a cleared table can lead to it.
 fn opened(head: &Head, filter: &[u8]) -> Option<Association> {
     let &[1, timescale, chunk, next, count, last, ..] = head else {
         return None;
@@ -40,17 +41,21 @@ fn opened(head: &Head, filter: &[u8]) -> Option<Association> {
     let chunk = CHUNK_SIZES.into_iter().find(|&c| u64::from(c) == chunk)?;
     let next_offset = offset(next, chunk)?;
     let saved = saved(head)?;
-    let outstanding = outstanding(head, chunk, saved.is_some())?;
-    if count > FILTER_OCTETS as u64 || count % u64::from(chunk) != 0 {
+    let outstanding = outstanding(head, next_offset)?;
+    // Chunks are taken in order from 0 on, each from a response that is saved.
+    if (count != next && count != FILTER_OCTETS as u64) || (count != 0 && saved.is_none()) {
         return None;
     }
-    let end = outstanding.map_or(next_offset, |request| request.offset);
+    // A request is outstanding until it is used up, by a response that is saved.
+    if (last == 0) != (outstanding.is_none() && saved.is_none()) {
+        return None;
+    }
     Some(Association {
         timescale: timescale.try_into().ok()?,
         chunk,
         next_offset,
         filter: Filter(filter.try_into().ok()?),
-        taken: run(count as usize, end.into(), chunk.into()),
+        taken: Taken::first(count as usize),
         last_cookie: (last != 0).then_some(ClientCookie(last)),
         outstanding,
         saved,
@@ -76,31 +81,22 @@ fn saved(head: &Head) -> Option<Option<Saved>> {
     }))
 }
 
-/// The outstanding request. It has a client cookie, which is the last one, and
-/// a server cookie only if a response was saved.
-fn outstanding(head: &Head, c: u16, saved: bool) -> Option<Option<Request>> {
-    let &[_, _, _, _, _, last, flag, cookie, at, t1, ..] = head;
+/// The outstanding request. Nothing was taken or saved since its poll, so it asked
+/// the next offset and sent the saved server cookie or none.
+fn outstanding(head: &Head, next_offset: u16) -> Option<Option<Request>> {
+    let &[_, _, _, _, _, last, flag, cookie, at, t1, .., known] = head;
     match flag {
         0 => [cookie, at, t1].iter().all(|&n| n == 0).then_some(None),
-        1 if last != 0 && (saved || cookie == 0) => Some(Some(Request {
-            client_cookie: ClientCookie(last),
-            server_cookie: ServerCookie(cookie),
-            offset: offset(at, c)?,
-            t1,
-        })),
+        1 if at == u64::from(next_offset) && (cookie == 0 || cookie == known) => {
+            Some(Some(Request {
+                client_cookie: ClientCookie(last),
+                server_cookie: ServerCookie(cookie),
+                offset: next_offset,
+                t1,
+            }))
+        }
         _ => None,
     }
-}
-
-/// The flags that `count` taken octets stand for: those before the chunk that is
-/// taken next, counted round. Chunks are taken in order from 0 on, so in every
-/// table reached from a cleared one these are the first `count`, or all.
-fn run(count: usize, end: usize, c: usize) -> Taken {
-    let mut taken = Taken::NONE;
-    for back in (c..=count).step_by(c) {
-        taken.mark((end + FILTER_OCTETS - back) % FILTER_OCTETS, c);
-    }
-    taken
 }
 
 /// A place's octets.

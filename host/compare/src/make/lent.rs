@@ -1,67 +1,49 @@
 //! Any octets as a table or a store: reached, nearly so, and not at all.
 
+use super::head::{self, Clause};
 use crate::random::Random;
-use reference::association::{Place, CHUNK_SIZES};
-use reference::record::{self, NUMBERS};
+use reference::association::Place;
+use reference::filter;
+use reference::record;
 use reference::store::{Record, Store};
 use reference::table::{Table, PLACES};
 
+/// The clause that is broken in each record's head, where it is known.
+pub type Broken = [Option<Clause>; PLACES];
+
 /// Octets to be lent as a table.
-pub fn table(random: &mut Random) -> Vec<u8> {
+pub fn table(random: &mut Random) -> (Vec<u8>, Broken) {
     let mut octets = Vec::with_capacity(PLACES * record::OCTETS);
-    for _ in 0..PLACES {
-        octets.extend(place(random));
+    let mut broken = [None; PLACES];
+    for clause in &mut broken {
+        *clause = place(random, &mut octets);
     }
     if random.one_in(30) {
         let size = random.pick(&[0, 1, 640, 10_239, 10_241, 16_384]);
         octets.resize(size, 0);
+        broken = [None; PLACES];
     }
-    octets
+    (octets, broken)
 }
 
-/// A record: closed, open with numbers in their ranges, perhaps one of them damaged, or any octets.
-fn place(random: &mut Random) -> Vec<u8> {
-    let mut head = [0; NUMBERS];
-    match random.below(10) {
-        0 => return random.octets(record::OCTETS),
-        1 => {}
-        _ => head = open(random),
-    }
-    if random.one_in(2) {
-        let at = random.below(NUMBERS);
-        let edges = [0, 1, 2, 15, 16, 256, 496, 511, 512, 513, 528, 1 << 32, 1 << 63, u64::MAX];
-        head[at] = if random.one_in(4) { random.any() } else { random.pick(&edges) };
-    }
-    let mut octets = head.map(u64::to_be_bytes).concat();
-    octets.extend(random.octets(record::OCTETS - octets.len()));
-    octets
-}
-
-/// An open record's numbers, each in its range; most such records are never reached.
-fn open(random: &mut Random) -> [u64; NUMBERS] {
-    let mut head = [0; NUMBERS];
-    let c = u64::from(random.pick(&CHUNK_SIZES));
-    let chunks = 512 / c as usize;
-    head[0] = 1;
-    head[1] = random.below(4) as u64;
-    head[2] = c;
-    head[3] = c * random.below(chunks) as u64;
-    head[4] = if random.one_in(2) { 512 } else { c * random.below(chunks + 1) as u64 };
-    head[5] = random.number();
-    let saved = random.one_in(2);
-    if saved {
-        head[10] = random.below(4) as u64;
-        for number in &mut head[11..] {
-            *number = random.time();
+/// Appends a record: its head in range, with a clause broken or with any one number, or any
+/// octets.
+fn place(random: &mut Random, octets: &mut Vec<u8>) -> Option<Clause> {
+    let (head, broken) = match random.below(20) {
+        0..2 => {
+            octets.extend(random.octets(record::OCTETS));
+            return None;
         }
-    }
-    if random.below(3) > 0 {
-        head[6] = 1;
-        head[7] = if saved { random.time() } else { 0 };
-        head[8] = c * random.below(chunks) as u64;
-        head[9] = random.time();
-    }
-    head
+        2..7 => {
+            let clause = random.pick(&Clause::ALL);
+            (head::broken(random, clause), Some(clause))
+        }
+        7..11 => (head::changed(random), None),
+        _ => (head::in_range(random), None),
+    };
+    octets.extend(head.map(u64::to_be_bytes).concat());
+    octets.extend(random.octets(filter::OCTETS));
+    broken
 }
 
 /// What a generator of calls may know of a table: its records that can be read.

@@ -5,6 +5,7 @@
 
 pub mod client;
 pub mod datagram;
+pub mod head;
 pub mod lent;
 pub mod responder;
 pub mod single;

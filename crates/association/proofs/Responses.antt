@@ -1,0 +1,65 @@
+-- What a response that was read from a datagram gives: numbers that fit, and a chunk that lies in it. Assumes nothing.
+use mathlib.Core.Path.{_≡_, refl, _∙_}
+use mathlib.Core.Bool.{Bool, true, false, cond}
+use mathlib.Core.List.{List}
+use Prim.Native.Nat.{ℕ, _+_, _^_, _≤_, _<_}
+use native.Mathlib.Omega.{arith}
+use borrow.Author.Tests.{eqb-true, le-leb, leb-true}
+use lib.Dec.{eqb, leb}
+use lib.ListN.{length, take, drop, length-take, length-drop}
+use lib.Seq.{paste, length-paste, take-take}
+use Rattle.octets.specs.Part.{copyAt}
+use Rattle.octets.proofs.Parts.{overwritten}
+use Rattle.state.specs.Plain.{chunkOf}
+use Rattle.exchange.specs.Judging.{outcomeOf}
+use Rattle.exchange.specs.declared.response.Response.{Response}
+
+-- by both outcomes of a test
+pub by-test : {X : Type 0} (P : X → Type 0) (b : Bool) {x y : X} → (b ≡ true → P x) → (b ≡ false → P y) → P (cond b x y)
+by-test P true f g = f refl
+by-test P false f g = g refl
+
+-- a response's numbers fit, and its chunk lies in the datagram
+pub record GoodResponse (r : Response) (datagram : List ℕ) : Type 0 where
+  pub timescale : r .timescale < 256
+  pub server : r .server .0 < 2 ^ 64
+  pub receive : r .receive < 2 ^ 64
+  pub transmit : r .transmit < 2 ^ 64
+  pub t4 : r .t4 < 2 ^ 64
+  pub inside : r .start + r .length ≤ length datagram
+
+-- a chunk is taken exactly where the first 0xF504 has c data octets
+pub taken-length : (r : Response) (c : ℕ) → eqb (outcomeOf r c) 1 ≡ true → r .length ≡ c
+taken-length r c = go (r .present) (eqb (r .length) c) refl
+  where
+    go : (p b : Bool) → eqb (r .length) c ≡ b → eqb (cond p (cond b 1 3) 2) 1 ≡ true → r .length ≡ c
+    go true true e t = eqb-true (r .length) c e
+    go true false e t = let z : _≡_ {A = ℕ} 0 1 = cc in absurd (omega arith)
+    go false b e t = let z : _≡_ {A = ℕ} 0 1 = cc in absurd (omega arith)
+
+-- the chunk's octets
+pub length-chunk : (r : Response) (datagram : List ℕ) → GoodResponse r datagram → length (chunkOf r datagram) ≡ r .length
+length-chunk r datagram h =
+    let i = h .inside in
+    length-take (r .length) (drop (r .start) datagram) ∙ omega (arith, length-drop (r .start) datagram)
+
+-- the chunk goes to the offset of the request
+pub copied : (r : Response) (datagram f : List ℕ) (at c : ℕ) → length f ≡ 512 → at + c ≤ 512 → GoodResponse r datagram → r .length ≡ c
+    → copyAt f at datagram (r .start) c ≡ paste f at (chunkOf r datagram) c
+copied r datagram f at c l h g e =
+    let i = g .inside in
+    let s : r .start + c ≤ length datagram = omega arith in
+    let t : take c (take (r .length) (drop (r .start) datagram)) ≡ take c (drop (r .start) datagram) = take-take c (r .length) (drop (r .start) datagram) (omega arith) in
+    rw (le-leb _ _ s, overwritten f at (drop (r .start) datagram) c (omega arith), t)
+
+pub length-copied : (s : List ℕ) (to : ℕ) (source : List ℕ) (from n : ℕ) → length (copyAt s to source from n) ≡ length s
+length-copied s to source from n =
+    by-test Same (leb (from + n) (length source))
+    (λ t. by-test Same (leb (to + n) (length s))
+    (λ u. let x = leb-true (from + n) (length source) t in let y = leb-true (to + n) (length s) u in
+    length-paste s to (drop from source) n (omega arith) (omega (arith, length-drop from source)))
+    (λ u. refl))
+    (λ t. refl)
+  where
+    Same : List ℕ → Type 0
+    Same l = length l ≡ length s

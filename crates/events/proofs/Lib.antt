@@ -1,0 +1,3 @@
+-- The laws of the events. Assumes nothing.
+mod Placed
+mod Receiving

@@ -1,0 +1,49 @@
+-- Opening and a report on the place that numbers stand for, by tests of the numbers. Assumes nothing.
+use mathlib.Core.Path.{_≡_, refl, sym, ap}
+use mathlib.Core.Bool.{Bool, true, false, cond, not, _||_}
+use mathlib.Core.List.{List}
+use Prim.Native.Nat.{ℕ}
+use lib.Dec.{eqb}
+use lib.ListN.{replicate}
+use borrow.Author.Tests.{ne-eqb}
+use Rattle.state.specs.Rules.{plainReply}
+use Rattle.state.specs.Plain.{opened, fresh, reported, refuseAt, placeDo}
+use Rattle.state.specs.Numbers.{noRequest, noneSaved, placeOf, requestIn, openedIn}
+use Rattle.state.specs.Change.{change, Leaves}
+use Rattle.state.specs.declared.event.Event.the-variants.{Sent}
+use Rattle.state.specs.declared.head.Head.{Head}
+use Rattle.state.specs.declared.head.Filling.the-variants.{Clear}
+use Rattle.state.proofs.Flags.{count-first}
+
+-- the numbers of an association where so many octets were taken, and all else is as after opening
+abbrev openedHead : (timescale c taken : ℕ) → Head
+openedHead timescale c taken = record {
+  state = 1;
+  timescale = timescale;
+  chunk = c;
+  next = 0;
+  taken = taken;
+  last = record { 0 = 0 };
+  outstanding = 0;
+  request = noRequest;
+  saved = noneSaved;
+}
+
+-- a fresh place has the numbers of one where no octet was taken
+pub opened-fresh : (h : Head) (timescale c : ℕ) → Leaves h (change (plainReply 0) (openedHead timescale c 0) Clear) (plainReply 0) (λ datagram f. opened (fresh timescale c))
+opened-fresh h timescale c = record { leaves = λ datagram f. ap (λ (k : ℕ). (plainReply 0, (openedHead timescale c k, replicate 512 0))) (sym (count-first 0)) }
+
+module _ (h : Head) (t1 : ℕ) (timed : t1 ≡ 0 → ⊥) (datagram f : List ℕ) where
+  abbrev ByTests : Type 0
+  ByTests = placeDo (Sent t1) datagram (placeOf h f)
+      ≡ cond (eqb (h .state) 0 || eqb (h .outstanding) 0 || not (eqb (h .request .t1) 0)) (refuseAt 7 (placeOf h f)) (plainReply 0, opened (reported t1 (openedIn h f) (requestIn h)))
+
+  pub reports : ByTests
+  unfolding placeDo
+  reports = go (eqb (h .state) 0) (eqb (h .outstanding) 0) (eqb (h .request .t1) 0) refl refl refl
+    where
+      go : (s a b : Bool) → eqb (h .state) 0 ≡ s → eqb (h .outstanding) 0 ≡ a → eqb (h .request .t1) 0 ≡ b → ByTests
+      go true a b x y z = rw (x, ne-eqb _ _ timed)
+      go false true b x y z = rw (x, y, ne-eqb _ _ timed)
+      go false false true x y z = rw (x, y, z, ne-eqb _ _ timed)
+      go false false false x y z = rw (x, y, z, ne-eqb _ _ timed)

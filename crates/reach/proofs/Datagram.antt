@@ -1,0 +1,66 @@
+-- A response datagram that has a head's saved numbers, and that it reads back as them. Assumes nothing.
+use mathlib.Core.Path.{_≡_, _∙_}
+use mathlib.Core.List.{List, _++_}
+use Prim.Native.Nat.{ℕ, _+_, _≤_, _<_, _^_}
+use native.Mathlib.Omega.{arith}
+use lib.Dec.{lit<}
+use lib.IntN.{pos}
+use lib.ListN.{length, length-append}
+use lib.Seq.{drop-at}
+use Rattle.octets.specs.Number.{Octets}
+use Rattle.octets.proofs.Written.{both-octets, spelled-octets}
+use Rattle.header.specs.Header.{octetsOf, layout}
+use Rattle.header.specs.declared.Header.{Header}
+use Rattle.header.proofs.Refusals.{refusal-none}
+use Rattle.header.proofs.RoundTrip.{length-octetsOf, read-written, version-written, mode-written}
+use Rattle.chain.specs.Chain.{soundRefusal}
+use Rattle.chain.specs.Field.{firstOf}
+use Rattle.chain.specs.Content.{Content, chainOctets, placed}
+use Rattle.chain.proofs.Contents.{AllFit, AllOctets, chain-fours, chain-octets, chain-written, fields-written}
+use Rattle.chain.proofs.Datagrams.{sound-datagram}
+use Rattle.exchange.specs.Response.{withChunk, responseOf}
+use Rattle.exchange.proofs.Responses.{response-accepted}
+use Rattle.state.specs.Numbers.{HeadFits}
+use Rattle.state.specs.declared.head.Head.{Head}
+use Rattle.state.specs.declared.head.Saved.{Saved}
+
+-- the header of a basic response to client cookie k
+abbrev pub header : Saved → ℕ → Header
+header v k = record {
+  leap = 0;
+  mode = 4;
+  stratum = 1;
+  poll = pos 0;
+  precision = pos 0;
+  timescale = v .timescale;
+  era = 0;
+  flags = 0;
+  «root_delay» = 0;
+  «root_dispersion» = 0;
+  «server_cookie» = v .server;
+  «client_cookie» = record { 0 = k };
+  receive = v .t2;
+  transmit = v .t3;
+}
+
+abbrev pub datagram : Saved → ℕ → List Content → List ℕ
+datagram v k cs = octetsOf (header v k) ++ chainOctets cs
+
+pub datagram-octets : (v : Saved) (k : ℕ) (cs : List Content) → AllOctets cs → Octets (datagram v k cs)
+unfolding octetsOf
+datagram-octets v k cs o = both-octets (octetsOf (header v k)) (chainOctets cs) (spelled-octets (layout (header v k))) (chain-octets cs o)
+
+datagram-sound : (v : Saved) (k : ℕ) (cs : List Content) → AllFit cs → length (chainOctets cs) ≤ 1232 → soundRefusal (datagram v k cs) 4 ≡ 0
+datagram-sound v k cs fit room =
+    let q = header v k in
+    let l : length (datagram v k cs) ≡ 48 + length (chainOctets cs) = omega (arith, length-append (octetsOf q) (chainOctets cs), length-octetsOf q) in
+    sound-datagram (datagram v k cs) 4
+    (refusal-none (datagram v k cs) 4 (omega (arith, chain-fours cs, version-written q (chainOctets cs) (lit< tt) (lit< tt), mode-written q (chainOctets cs) (lit< tt) (lit< tt))))
+    (rw (drop-at (octetsOf q) (chainOctets cs) 48 (length-octetsOf q)) (chain-written cs fit))
+
+pub response-read : (h : Head) → HeadFits h → h .saved .timescale < 256 → (k : ℕ) → k < 2 ^ 64 → (cs : List Content) → AllFit cs → length (chainOctets cs) ≤ 1232
+    → (t4 : ℕ) → responseOf (datagram (h .saved) k cs) t4 ≡ withChunk (firstOf 0xF504 (placed 48 cs)) (header (h .saved) k) t4
+response-read h fits timescale k client cs fit room t4 =
+    let q = header (h .saved) k in
+    response-accepted (datagram (h .saved) k cs) t4 (datagram-sound (h .saved) k cs fit room)
+    ∙ rw (fields-written (octetsOf q) cs 48 (length-octetsOf q) fit, read-written q (chainOctets cs) (omega arith))

@@ -1,0 +1,2 @@
+-- What calls on a cleared table lead to.
+pub mod Reach

@@ -1,0 +1,37 @@
+-- What calls on a cleared table lead to: a table loses nothing of the plain table, and a head is in range exactly if calls lead to it.
+use mathlib.Core.Path.{_≡_}
+use mathlib.Core.Bool.{true}
+use mathlib.Core.List.{List}
+use Prim.Native.Nat.{ℕ, _<_}
+use lib.ListN.{length}
+use Rattle.state.specs.Range.{inRange}
+use Rattle.state.specs.Numbers.{HeadFits}
+use Rattle.state.specs.declared.head.Head.{Head}
+use Rattle.association.specs.Record.{headOf}
+use Rattle.order.specs.Order.{TaggedCall, after, EveryCall}
+use Rattle.client_rules.specs.Call.{Call, Typed}
+use Rattle.client_rules.specs.Octets.{tableOctets, part}
+use Rattle.client_rules.specs.Plain.{closedTable, stepPlain}
+use Rattle.client_rules.specs.Claim.{reached}
+
+-- tables with the same octets come from the same plain table
+abbrev pub NothingLost : Type 0
+NothingLost = (t u : List ℕ) → length t ≡ tableOctets → length u ≡ tableOctets → (cs ds : List (TaggedCall Call)) → EveryCall Typed cs → EveryCall Typed ds
+    → reached t cs ≡ reached u ds → after stepPlain cs closedTable ≡ after stepPlain ds closedTable
+
+-- the head of an association after calls
+abbrev pub headAfter : List ℕ → List (TaggedCall Call) → ℕ → Head
+headAfter t cs a = headOf (part a (reached t cs))
+
+-- calls lead only to heads in range
+abbrev pub OnlyInRange : Type 0
+OnlyInRange = (t : List ℕ) → length t ≡ tableOctets → (cs : List (TaggedCall Call)) → EveryCall Typed cs → (a : ℕ) → a < 16 → inRange (headAfter t cs a) ≡ true
+
+-- and to every one of them, of any association of any table
+pub record LeadsTo (a : ℕ) (h : Head) : Type 0 where
+  pub calls : List (TaggedCall Call)
+  pub typed : EveryCall Typed calls
+  pub leads : (t : List ℕ) → length t ≡ tableOctets → headAfter t calls a ≡ h
+
+abbrev pub EveryInRange : Type 0
+EveryInRange = (a : ℕ) → a < 16 → (h : Head) → HeadFits h → inRange h ≡ true → LeadsTo a h

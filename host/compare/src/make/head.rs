@@ -1,0 +1,191 @@
+//! Heads of records: in range, with each clause of their rule broken, with any one number.
+
+use crate::random::Random;
+use reference::association::CHUNK_SIZES;
+use reference::record::NUMBERS;
+
+/// A record's sixteen numbers, in the order of their places.
+pub type Head = [u64; NUMBERS];
+
+/// Numbers at which a range begins or ends, or near them.
+const EDGES: [u64; 18] =
+    [0, 1, 2, 15, 16, 32, 48, 255, 256, 496, 511, 512, 513, 528, 1024, 1 << 32, 1 << 63, u64::MAX];
+
+/// What is asked of the numbers, so that calls on a cleared table lead to them.
+#[derive(Clone, Copy, Debug, PartialEq, Eq)]
+pub enum Clause {
+    /// The state is 0 or 1.
+    State,
+    /// A closed record's numbers are all 0.
+    Closed,
+    /// The timescale is an octet.
+    Timescale,
+    /// The chunk size is offered.
+    ChunkSize,
+    /// The next offset is a multiple of c below 512.
+    NextOffset,
+    /// The octets before the next offset were taken, or all.
+    Taken,
+    /// None was taken if nothing was saved.
+    TakenUnsaved,
+    /// There is a last cookie if something is outstanding or was saved.
+    LastMissing,
+    /// There is none otherwise.
+    LastAlone,
+    /// A request is outstanding or not, 1 or 0.
+    Outstanding,
+    /// It sent server cookie 0 or the saved one.
+    RequestCookie,
+    /// It asked the next offset.
+    RequestOffset,
+    /// Its numbers are 0 if nothing is outstanding.
+    RequestAbsent,
+    /// The saved timescale is an octet.
+    SavedTimescale,
+    /// What is saved beside T4 is 0 if T4 is.
+    SavedAbsent,
+}
+
+impl Clause {
+    /// All clauses.
+    pub const ALL: [Clause; 15] = [
+        Clause::State,
+        Clause::Closed,
+        Clause::Timescale,
+        Clause::ChunkSize,
+        Clause::NextOffset,
+        Clause::Taken,
+        Clause::TakenUnsaved,
+        Clause::LastMissing,
+        Clause::LastAlone,
+        Clause::Outstanding,
+        Clause::RequestCookie,
+        Clause::RequestOffset,
+        Clause::RequestAbsent,
+        Clause::SavedTimescale,
+        Clause::SavedAbsent,
+    ];
+
+    /// Whether a request is outstanding and something saved in a head where this clause is broken.
+    fn occasion(self, random: &mut Random) -> (bool, bool) {
+        let (asked, saved) = (random.one_in(2), random.one_in(2));
+        match self {
+            Clause::NextOffset | Clause::Taken | Clause::SavedTimescale => (asked, true),
+            Clause::TakenUnsaved | Clause::SavedAbsent => (asked, false),
+            Clause::LastMissing => (asked || !saved, saved),
+            Clause::LastAlone => (false, false),
+            Clause::Outstanding | Clause::RequestCookie | Clause::RequestOffset => (true, saved),
+            Clause::RequestAbsent => (false, saved),
+            _ => (asked, saved),
+        }
+    }
+}
+
+/// A head in range: closed once in a while, mostly open.
+pub fn in_range(random: &mut Random) -> Head {
+    if random.one_in(10) {
+        return [0; NUMBERS];
+    }
+    let (asked, saved) = (random.one_in(2), random.below(3) > 0);
+    open(random, asked, saved)
+}
+
+/// An open head in range, with or without a request outstanding and something saved.
+fn open(random: &mut Random, asked: bool, saved: bool) -> Head {
+    let mut head = [0; NUMBERS];
+    let c = random.pick(&CHUNK_SIZES).into();
+    head[0] = 1;
+    head[1] = timescale(random);
+    head[2] = c;
+    if saved {
+        head[3] = c * random.below(512 / c as usize) as u64;
+        head[4] = random.pick(&[head[3], 512]);
+        head[10] = timescale(random);
+        head[11..].fill_with(|| random.time());
+        head[14] = random.number().max(1);
+    }
+    if asked || saved {
+        head[5] = random.number().max(1);
+    }
+    if asked {
+        head[6] = 1;
+        head[7] = random.pick(&[0, head[15], head[15]]);
+        head[8] = head[3];
+        head[9] = if random.one_in(2) { 0 } else { random.time() };
+    }
+    head
+}
+
+/// Mostly one of a few, so that those of association and response are often equal.
+fn timescale(random: &mut Random) -> u64 {
+    let any = random.any() % 256;
+    random.pick(&[0, 1, 2, 3, 0, 1, 255, any])
+}
+
+/// Any number, mostly one near an edge.
+fn number(random: &mut Random) -> u64 {
+    if random.one_in(4) {
+        random.any()
+    } else {
+        random.pick(&EDGES)
+    }
+}
+
+/// A number that is `wrong`, of which there are many.
+fn such(random: &mut Random, wrong: impl Fn(u64) -> bool) -> u64 {
+    loop {
+        let number = number(random);
+        if wrong(number) {
+            return number;
+        }
+    }
+}
+
+/// A head in range but for one number, which may be any.
+pub fn changed(random: &mut Random) -> Head {
+    let mut head = in_range(random);
+    head[random.below(NUMBERS)] = number(random);
+    head
+}
+
+/// A head in which this clause is broken and no other.
+pub fn broken(random: &mut Random, clause: Clause) -> Head {
+    let (asked, saved) = clause.occasion(random);
+    let mut head = match clause {
+        Clause::Closed => [0; NUMBERS],
+        _ => open(random, asked, saved),
+    };
+    let [state, _, _, next, taken, ..] = head;
+    let (at, number) = wrong(random, clause, &head);
+    head[at] = number;
+    // What has to be the next offset goes with it.
+    if state == 1 && at == 3 {
+        head[4] = if taken == next { number } else { taken };
+        head[8] = if asked { number } else { 0 };
+    }
+    head
+}
+
+/// The place of a number and a value with which it breaks the clause.
+fn wrong(random: &mut Random, clause: Clause, head: &Head) -> (usize, u64) {
+    let &[_, _, c, next, .., known] = head;
+    let offered = |n: u64| CHUNK_SIZES.iter().any(|&size| n == size.into());
+    match clause {
+        Clause::State => (0, such(random, |n| n > 1)),
+        Clause::Closed => (1 + random.below(NUMBERS - 1), such(random, |n| n != 0)),
+        Clause::Timescale => (1, such(random, |n| n > 255)),
+        Clause::ChunkSize => (2, such(random, |n| !offered(n))),
+        Clause::NextOffset => (3, such(random, |n| n >= 512 || n % c != 0)),
+        Clause::Taken => (4, such(random, |n| n != next && n != 512)),
+        Clause::TakenUnsaved if c < 512 && random.one_in(2) => (3, c),
+        Clause::TakenUnsaved => (4, 512),
+        Clause::LastMissing => (5, 0),
+        Clause::LastAlone => (5, such(random, |n| n != 0)),
+        Clause::Outstanding => (6, such(random, |n| n > 1)),
+        Clause::RequestCookie => (7, such(random, |n| n != 0 && n != known)),
+        Clause::RequestOffset => (8, such(random, |n| n != next)),
+        Clause::RequestAbsent => (7 + random.below(3), random.pick(&[next, known, 1]).max(1)),
+        Clause::SavedTimescale => (10, such(random, |n| n > 255)),
+        Clause::SavedAbsent => (random.pick(&[10, 11, 12, 13, 15]), such(random, |n| n != 0)),
+    }
+}

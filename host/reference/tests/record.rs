@@ -1,0 +1,107 @@
+//! The ranges of a record's numbers, which heads are refused with 6.
+#![forbid(unsafe_code)]
+
+use reference::record::{decode, encode, NUMBERS, OCTETS};
+use reference::refusal::Refusal;
+
+type Head = [u64; NUMBERS];
+
+const CLOSED: Head = [0; NUMBERS];
+/// As opened.
+const OPENED: Head = [1, 0, 16, 0, 0, 0, 0, 0, 0, 0, 0, 0, 0, 0, 0, 0];
+/// Polled once.
+const POLLED: Head = [1, 255, 512, 0, 0, 7, 1, 0, 0, 0, 0, 0, 0, 0, 0, 0];
+/// Two chunks taken, nothing outstanding.
+const SAVED: Head = [1, 0, 16, 32, 32, 7, 0, 0, 0, 0, 255, 0, 0, 0, 4, 9];
+/// As [`SAVED`], then polled interleaved and sent.
+const ASKED: Head = [1, 0, 16, 32, 32, 8, 1, 9, 32, 5, 0, 1, 2, 3, 4, 9];
+
+/// A head with some of its numbers changed.
+fn with(mut head: Head, changes: &[(usize, u64)]) -> Head {
+    changes.iter().for_each(|&(at, number)| head[at] = number);
+    head
+}
+
+/// A record with this head.
+fn record(head: &Head) -> [u8; OCTETS] {
+    let mut record = [0xA5; OCTETS];
+    if *head == CLOSED {
+        record.fill(0);
+    }
+    for (octets, number) in record.chunks_exact_mut(8).zip(head) {
+        octets.copy_from_slice(&number.to_be_bytes());
+    }
+    record
+}
+
+#[test]
+fn heads_in_range_are_read_and_written_again() {
+    for head in [
+        CLOSED,
+        OPENED,
+        POLLED,
+        SAVED,
+        ASKED,
+        // Measured without a chunk, all taken, and in the second turn.
+        with(SAVED, &[(3, 0), (4, 0)]),
+        with(SAVED, &[(3, 0), (4, 512)]),
+        with(SAVED, &[(3, 496), (4, 512)]),
+        with(SAVED, &[(2, 512), (3, 0), (4, 512)]),
+        with(SAVED, &[(3, 80), (4, 80)]),
+        // Polled basic, and a server whose cookie is 0.
+        with(ASKED, &[(7, 0), (9, 0)]),
+        with(ASKED, &[(7, 0), (15, 0)]),
+    ] {
+        let place = decode(&record(&head)).unwrap_or_else(|_| panic!("{head:?}"));
+        assert_eq!(encode(&place), record(&head), "{head:?}");
+    }
+}
+
+fn refused(head: &Head) {
+    assert_eq!(decode(&record(head)), Err(Refusal::Argument), "{head:?}");
+}
+
+#[test]
+fn heads_out_of_range_are_refused() {
+    let heads = [
+        // What must be a multiple of c below 512 is not, though the others fit it.
+        with(SAVED, &[(3, 40), (4, 40)]),
+        with(SAVED, &[(3, 512), (4, 512)]),
+        with(SAVED, &[(2, 64)]),
+        // Neither the octets before the next offset nor all of them.
+        with(SAVED, &[(4, 16)]),
+        with(SAVED, &[(4, 0)]),
+        with(SAVED, &[(3, 0), (4, 496)]),
+        with(SAVED, &[(4, 528)]),
+        // Taken, and nothing saved.
+        with(OPENED, &[(4, 512)]),
+        with(POLLED, &[(4, 512)]),
+        with(POLLED, &[(2, 16), (3, 32), (4, 32), (8, 32)]),
+        // A last request of which nothing is left, and what is left of none.
+        with(OPENED, &[(5, 7)]),
+        with(POLLED, &[(5, 0)]),
+        with(SAVED, &[(5, 0)]),
+        with(ASKED, &[(5, 0)]),
+        // An outstanding request that no poll here makes.
+        with(ASKED, &[(6, 2)]),
+        with(ASKED, &[(7, 10)]),
+        with(POLLED, &[(7, 9)]),
+        with(ASKED, &[(8, 16)]),
+        with(ASKED, &[(3, 48), (4, 48)]),
+        // Timescales of more than an octet, sizes that are not offered, states.
+        with(OPENED, &[(1, 256)]),
+        with(SAVED, &[(10, 256)]),
+        with(OPENED, &[(2, 0)]),
+        with(OPENED, &[(2, 48)]),
+        with(OPENED, &[(0, 2)]),
+    ];
+    heads.iter().for_each(refused);
+}
+
+#[test]
+fn what_is_absent_is_zero() {
+    let closed = (1..NUMBERS).map(|at| with(CLOSED, &[(at, 16)]));
+    let nothing_outstanding = (7..10).map(|at| with(SAVED, &[(at, SAVED[3])]));
+    let nothing_saved = [10, 11, 12, 13, 15].into_iter().map(|at| with(POLLED, &[(at, 1)]));
+    closed.chain(nothing_outstanding).chain(nothing_saved).for_each(|head| refused(&head));
+}
