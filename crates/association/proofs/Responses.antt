@@ -10,7 +10,6 @@ use lib.ListN.{length, take, drop, length-take, length-drop}
 use lib.Seq.{paste, length-paste, take-take}
 use Rattle.octets.specs.Part.{copyAt}
 use Rattle.octets.proofs.Parts.{overwritten}
-use Rattle.state.specs.Plain.{chunkOf}
 use Rattle.exchange.specs.Judging.{outcomeOf}
 use Rattle.exchange.specs.declared.response.Response.{Response}
 
@@ -37,7 +36,10 @@ taken-length r c = go (r .present) (eqb (r .length) c) refl
     go true false e t = let z : _≡_ {A = ℕ} 0 1 = cc in absurd (omega arith)
     go false b e t = let z : _≡_ {A = ℕ} 0 1 = cc in absurd (omega arith)
 
--- the chunk's octets
+-- the response's chunk: its data octets
+abbrev pub chunkOf : Response → List ℕ → List ℕ
+chunkOf r datagram = take (r .length) (drop (r .start) datagram)
+
 pub length-chunk : (r : Response) (datagram : List ℕ) → GoodResponse r datagram → length (chunkOf r datagram) ≡ r .length
 length-chunk r datagram h =
     let i = h .inside in

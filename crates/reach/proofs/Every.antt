@@ -23,7 +23,7 @@ use Rattle.client_rules.specs.Call.{openOne}
 use Rattle.client_rules.specs.Plain.{closedTable}
 use Rattle.client_rules.proofs.Demand3.{closed-at}
 use Rattle.reach.specs.Reach.{EveryInRange}
-use Rattle.reach.proofs.Held.{head-after}
+use Rattle.reach.proofs.Only.{head-after}
 use Rattle.reach.proofs.Calls.{by-outcome, From, call, Polls, ask, round}
 use Rattle.reach.proofs.Rounds.{choose, idle, Leads, rounds}
 

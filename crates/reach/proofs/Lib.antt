@@ -1,5 +1,5 @@
--- What calls on a cleared table lead to. Assumes nothing.
-pub mod Held
+-- A head is in range exactly if calls lead to it. Assumes nothing.
+pub mod Only
 mod Datagram
 mod Calls
 mod Rounds

@@ -1,2 +1,2 @@
--- What calls on a cleared table lead to.
+-- Which heads calls lead to.
 pub mod Reach

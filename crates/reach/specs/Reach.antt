@@ -1,4 +1,4 @@
--- What calls on a cleared table lead to: a table loses nothing of the plain table, and a head is in range exactly if calls lead to it.
+-- A head is in range exactly if calls on a cleared table lead to it.
 use mathlib.Core.Path.{_≡_}
 use mathlib.Core.Bool.{true}
 use mathlib.Core.List.{List}
@@ -8,16 +8,10 @@ use Rattle.state.specs.Range.{inRange}
 use Rattle.state.specs.Numbers.{HeadFits}
 use Rattle.state.specs.declared.head.Head.{Head}
 use Rattle.association.specs.Record.{headOf}
-use Rattle.order.specs.Order.{TaggedCall, after, EveryCall}
+use Rattle.order.specs.Order.{TaggedCall, EveryCall}
 use Rattle.client_rules.specs.Call.{Call, Typed}
 use Rattle.client_rules.specs.Octets.{tableOctets, part}
-use Rattle.client_rules.specs.Plain.{closedTable, stepPlain}
 use Rattle.client_rules.specs.Claim.{reached}
-
--- tables with the same octets come from the same plain table
-abbrev pub NothingLost : Type 0
-NothingLost = (t u : List ℕ) → length t ≡ tableOctets → length u ≡ tableOctets → (cs ds : List (TaggedCall Call)) → EveryCall Typed cs → EveryCall Typed ds
-    → reached t cs ≡ reached u ds → after stepPlain cs closedTable ≡ after stepPlain ds closedTable
 
 -- the head of an association after calls
 abbrev pub headAfter : List ℕ → List (TaggedCall Call) → ℕ → Head

@@ -1,1 +1,1 @@
-// What calls on a cleared table lead to: claims in `specs/`, and no code.
+// Which heads calls on a cleared table lead to: specs/ says that they are those in range, proofs/ that it is so. There is no code.
