@@ -1,19 +1,22 @@
--- Opening and a report on the place that numbers stand for, by tests of the numbers. Assumes nothing.
+-- Opening, a report and a response on the place that numbers stand for, by tests of the numbers. Assumes nothing.
 use mathlib.Core.Path.{_≡_, refl, sym, ap}
-use mathlib.Core.Bool.{Bool, true, false, cond, not, _||_}
+use mathlib.Core.Bool.{Bool, true, false, cond, not, _||_, _&&_}
 use mathlib.Core.List.{List}
 use Prim.Native.Nat.{ℕ}
 use lib.Dec.{eqb}
 use lib.ListN.{replicate}
-use borrow.Author.Tests.{ne-eqb}
+use borrow.Author.Tests.{ne-eqb, eq-eqb}
 use Rattle.state.specs.Rules.{plainReply}
-use Rattle.state.specs.Plain.{opened, fresh, reported, refuseAt, placeDo}
+use Rattle.state.specs.Plain.{opened, fresh, reported, refuseAt, placeDo, Outstanding, Place, received, replyOf}
 use Rattle.state.specs.Numbers.{noRequest, noneSaved, placeOf, requestIn, openedIn}
 use Rattle.state.specs.Change.{change, Leaves}
-use Rattle.state.specs.declared.event.Event.the-variants.{Sent}
+use Rattle.state.specs.declared.event.Event.the-variants.{Sent, Receive}
 use Rattle.state.specs.declared.head.Head.{Head}
 use Rattle.state.specs.declared.head.Filling.the-variants.{Clear}
 use Rattle.state.proofs.Flags.{count-first}
+use Rattle.exchange.specs.declared.response.Response.{Response}
+use Rattle.state.specs.declared.event.Reply.{Reply}
+use Rattle.state.proofs.Changes.{on-request}
 
 -- the numbers of an association where so many octets were taken, and all else is as after opening
 abbrev openedHead : (timescale c taken : ℕ) → Head
@@ -47,3 +50,19 @@ module _ (h : Head) (t1 : ℕ) (timed : t1 ≡ 0 → ⊥) (datagram f : List ℕ
       go false true b x y z = rw (x, y, ne-eqb _ _ timed)
       go false false true x y z = rw (x, y, z, ne-eqb _ _ timed)
       go false false false x y z = rw (x, y, z, ne-eqb _ _ timed)
+
+-- ---- a response
+
+module _ (r : Response) (h : Head) (datagram f : List ℕ) where
+  -- what comes after the outstanding request and its cookie
+  abbrev rest : Outstanding → Reply × Place
+  rest k =
+      cond (r .interleaved && eqb (k .server) 0) (refuseAt 10 (opened (openedIn h f)))
+      (replyOf r (openedIn h f) k, opened (received r datagram (openedIn h f) k))
+
+  pub asked : (r .t4 ≡ 0 → ⊥) → (h .state ≡ 0 → ⊥) → r .refusal ≡ 0 → placeDo (Receive r) datagram (placeOf h f)
+      ≡ cond (eqb (h .outstanding) 0 || not (eqb (r .client .0) (h .last .0))) (refuseAt 9 (opened (openedIn h f))) (rest (requestIn h))
+  unfolding placeDo
+  asked timed is-open sound =
+      rw (ne-eqb _ _ is-open, ne-eqb _ _ timed, eq-eqb _ _ sound)
+      (on-request (requestIn h) (eqb (h .outstanding) 0) (λ k. not (eqb (r .client .0) (k .client))) (refuseAt 9 (opened (openedIn h f))) rest)

@@ -4,7 +4,7 @@ use borrow.Author.Tests.{eq-eqb, ne-eqb, eqb-false}
 use Rattle.state.specs.Plain.{Place, refuseAt, placeDo}
 use Rattle.state.specs.declared.event.Event.the-variants.{Receive}
 use Rattle.state.proofs.Changes.{by-place, or-false, refused, done}
-use Rattle.events.proofs.Receiving.{asked}
+use Rattle.events.proofs.Placed.{asked}
 use borrow.Author.Needs.{needs}
 use Rattle.events.proofs.reception.receive.Statement.{statement}
 use Rattle.events.proofs.reception.receive.Tie as tie
