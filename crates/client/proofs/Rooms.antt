@@ -30,15 +30,15 @@ module _ (cookie : ℕ) (interleaved : Bool) (room : ℕ) where
   abbrev Fits : Reply → Type 0
   Fits r = r .refusal ≡ 0 → Room r room
 
-  abbrev Told : Reply × Place → Type 0
-  Told w = Fits (w .0)
+  abbrev ReplyFits : Reply × Place → Type 0
+  ReplyFits w = Fits (w .0)
 
   head-room : (h : Head) (datagram f : List ℕ) → inRange h ≡ true → Fits (placeDo (Poll (record { 0 = cookie }) interleaved room) datagram (placeOf h f) .0)
   unfolding placeDo
   head-room h datagram f g =
       by-test (λ (p : Place). Fits (placeDo (Poll (record { 0 = cookie }) interleaved room) datagram p .0)) (eqb (h .state) 0) (λ t z. absurd (omega arith))
-      (λ t. by-test Told (eqb cookie 0 || isLast cookie (cookieIn (h .last .0))) (λ u z. absurd (omega arith))
-      (λ u. by-test Told (ltb room (pollLength (h .chunk))) (λ v z. absurd (omega arith))
+      (λ t. by-test ReplyFits (eqb cookie 0 || isLast cookie (cookieIn (h .last .0))) (λ u z. absurd (omega arith))
+      (λ u. by-test ReplyFits (ltb room (pollLength (h .chunk))) (λ v z. absurd (omega arith))
       (λ v z. let o = open-ranges h g (eqb-false _ _ t) in record { low = o .chunk-low; high = o .chunk-high; fits = ltb-false _ _ v })))
 
   record-room : (datagram l : List ℕ) → Fits (onOctets (Poll (record { 0 = cookie }) interleaved room) datagram l .0)

@@ -29,8 +29,8 @@ seen T s a = record {
 }
 
 -- the answer that a call makes of an event's reply
-abbrev pub told : {S : Type 0} → (Reply → Answer) → Reply × S → Answer × S
-told answer w = (answer (w .0), w .1)
+abbrev pub answering : {S : Type 0} → (Reply → Answer) → Reply × S → Answer × S
+answering answer w = (answer (w .0), w .1)
 
 unfoldable pub clearing : {S : Type 0} → Table S → S → Answer × S
 clearing T s = cond (T .wrong s) (plainAnswer 6 [], s) (plainAnswer 0 [], T .cleared)
@@ -40,11 +40,11 @@ publishing T selected id out s = cond (T .wrong s) (plainAnswer 6 out) (publishF
 
 abbrev pub step : {S : Type 0} → Table S → Call → S → Answer × S
 step T clearTable s = clearing T s
-step T (openOne a timescale c) s = told refusalAnswer (T .event a (Open timescale c) [] s)
-step T (closeOne a) s = told refusalAnswer (T .event a Close [] s)
+step T (openOne a timescale c) s = answering refusalAnswer (T .event a (Open timescale c) [] s)
+step T (closeOne a) s = answering refusalAnswer (T .event a Close [] s)
 step T (poll a cookie exponent interleaved out) s =
-    told (pollAnswer cookie exponent interleaved out) (T .event a (Poll (record { 0 = cookie }) interleaved (length out)) [] s)
-step T (sent a t1) s = told refusalAnswer (T .event a (Sent t1) [] s)
-step T (receive a datagram t4) s = told receiveAnswer (T .event a (Receive (responseOf datagram t4)) datagram s)
+    answering (pollAnswer cookie exponent interleaved out) (T .event a (Poll (record { 0 = cookie }) interleaved (length out)) [] s)
+step T (sent a t1) s = answering refusalAnswer (T .event a (Sent t1) [] s)
+step T (receive a datagram t4) s = answering receiveAnswer (T .event a (Receive (responseOf datagram t4)) datagram s)
 step T (loopVerdict a id) s = (verdictFor id (seen T s a), s)
 step T (publish selected id out) s = (publishing T selected id out s, s)

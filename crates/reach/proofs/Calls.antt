@@ -30,7 +30,7 @@ use Rattle.order.specs.Order.{TaggedCall, after, EveryCall}
 use Rattle.client_rules.specs.Call.{Call, poll, sent, receive, Typed}
 use Rattle.client_rules.specs.Plain.{atPlace, stepPlain}
 use Rattle.client_rules.proofs.Simulate.{at-in}
-use Rattle.reach.proofs.Datagram.{header, datagram, datagram-octets, response-read}
+use Rattle.reach.proofs.Datagram.{responseHeader, responseDatagram, response-octets, response-read}
 
 -- by a test's outcome
 pub by-outcome : {P : Type 0} (b : Bool) → (b ≡ true → P) → (b ≡ false → P) → P
@@ -66,7 +66,7 @@ waiting k t1 i o = exchanged o (some k) (some (request k t1 i o)) (o .saved)
 
 -- the place after a response that has the saved numbers v and the fields cs
 abbrev answered : Saved → (k : ℕ) → List Content → Opened → Opened
-answered v k cs o = received (withChunk (firstOf 0xF504 (placed 48 cs)) (header v k) (v .t4)) (datagram v k cs) (waiting k (v .t1) false o) (request k (v .t1) false o)
+answered v k cs o = received (withChunk (firstOf 0xF504 (placed 48 cs)) (responseHeader v k) (v .t4)) (responseDatagram v k cs) (waiting k (v .t1) false o) (request k (v .t1) false o)
 
 -- a poll with cookie k is not refused after one with the last cookie
 pub record Polls (k : ℕ) (last : Option ℕ) : Type 0 where
@@ -93,8 +93,8 @@ module _ {a : ℕ} (inside : a < 16) (h : Head) where
 
     -- the response is accepted, with a chunk or without
     accepted : (c : Occurrence) (d : List ℕ) (k : ℕ) (o : Opened)
-        → placeDo (Receive (withChunk c (header v k) (v .t4))) d (opened (waiting k (v .t1) false o)) .1
-        ≡ opened (received (withChunk c (header v k) (v .t4)) d (waiting k (v .t1) false o) (request k (v .t1) false o))
+        → placeDo (Receive (withChunk c (responseHeader v k) (v .t4))) d (opened (waiting k (v .t1) false o)) .1
+        ≡ opened (received (withChunk c (responseHeader v k) (v .t4)) d (waiting k (v .t1) false o) (request k (v .t1) false o))
     unfolding placeDo
     accepted (At f) d k o = rw (ne-eqb (v .t4) 0 nonzero, eq-eqb k k refl)
     accepted Absent d k o = rw (ne-eqb (v .t4) 0 nonzero, eq-eqb k k refl)
@@ -102,8 +102,8 @@ module _ {a : ℕ} (inside : a < 16) (h : Head) where
     pub round : (o : Opened) (k : ℕ) → Polls k (o .last) → (cs : List Content) → AllFit cs → AllOctets cs → length (chainOctets cs) ≤ 1232
         → From a (opened (answered v k cs o)) h → From a (opened o) h
     round o k p cs fit octets room l =
-        let d = datagram v k cs in
+        let d = responseDatagram v k cs in
         ask o k (v .t1) false p (fits .saved-t1)
-        (call inside (receive a d (v .t4)) (Receive (responseOf d (v .t4))) d (omega arith, datagram-octets v k cs octets, fits .saved-t4) (λ ps. refl)
+        (call inside (receive a d (v .t4)) (Receive (responseOf d (v .t4))) d (omega arith, response-octets v k cs octets, fits .saved-t4) (λ ps. refl)
         (ap (λ (r : Response). placeDo (Receive r) d (opened (waiting k (v .t1) false o)) .1) (response-read h fits timescale k (p .fits) cs fit room (v .t4))
         ∙ accepted (firstOf 0xF504 (placed 48 cs)) d k o) l)

@@ -25,8 +25,8 @@ use Rattle.state.specs.declared.head.Head.{Head}
 use Rattle.state.specs.declared.head.Saved.{Saved}
 
 -- the header of a basic response to client cookie k
-abbrev pub header : Saved → ℕ → Header
-header v k = record {
+abbrev pub responseHeader : Saved → ℕ → Header
+responseHeader v k = record {
   leap = 0;
   mode = 4;
   stratum = 1;
@@ -43,24 +43,24 @@ header v k = record {
   transmit = v .t3;
 }
 
-abbrev pub datagram : Saved → ℕ → List Content → List ℕ
-datagram v k cs = octetsOf (header v k) ++ chainOctets cs
+abbrev pub responseDatagram : Saved → ℕ → List Content → List ℕ
+responseDatagram v k cs = octetsOf (responseHeader v k) ++ chainOctets cs
 
-pub datagram-octets : (v : Saved) (k : ℕ) (cs : List Content) → AllOctets cs → Octets (datagram v k cs)
+pub response-octets : (v : Saved) (k : ℕ) (cs : List Content) → AllOctets cs → Octets (responseDatagram v k cs)
 unfolding octetsOf
-datagram-octets v k cs o = both-octets (octetsOf (header v k)) (chainOctets cs) (spelled-octets (layout (header v k))) (chain-octets cs o)
+response-octets v k cs o = both-octets (octetsOf (responseHeader v k)) (chainOctets cs) (spelled-octets (layout (responseHeader v k))) (chain-octets cs o)
 
-datagram-sound : (v : Saved) (k : ℕ) (cs : List Content) → AllFit cs → length (chainOctets cs) ≤ 1232 → soundRefusal (datagram v k cs) 4 ≡ 0
-datagram-sound v k cs fit room =
-    let q = header v k in
-    let l : length (datagram v k cs) ≡ 48 + length (chainOctets cs) = omega (arith, length-append (octetsOf q) (chainOctets cs), length-octetsOf q) in
-    sound-datagram (datagram v k cs) 4
-    (refusal-none (datagram v k cs) 4 (omega (arith, chain-fours cs, version-written q (chainOctets cs) (lit< tt) (lit< tt), mode-written q (chainOctets cs) (lit< tt) (lit< tt))))
+response-sound : (v : Saved) (k : ℕ) (cs : List Content) → AllFit cs → length (chainOctets cs) ≤ 1232 → soundRefusal (responseDatagram v k cs) 4 ≡ 0
+response-sound v k cs fit room =
+    let q = responseHeader v k in
+    let l : length (responseDatagram v k cs) ≡ 48 + length (chainOctets cs) = omega (arith, length-append (octetsOf q) (chainOctets cs), length-octetsOf q) in
+    sound-datagram (responseDatagram v k cs) 4
+    (refusal-none (responseDatagram v k cs) 4 (omega (arith, chain-fours cs, version-written q (chainOctets cs) (lit< tt) (lit< tt), mode-written q (chainOctets cs) (lit< tt) (lit< tt))))
     (rw (drop-at (octetsOf q) (chainOctets cs) 48 (length-octetsOf q)) (chain-written cs fit))
 
 pub response-read : (h : Head) → HeadFits h → h .saved .timescale < 256 → (k : ℕ) → k < 2 ^ 64 → (cs : List Content) → AllFit cs → length (chainOctets cs) ≤ 1232
-    → (t4 : ℕ) → responseOf (datagram (h .saved) k cs) t4 ≡ withChunk (firstOf 0xF504 (placed 48 cs)) (header (h .saved) k) t4
+    → (t4 : ℕ) → responseOf (responseDatagram (h .saved) k cs) t4 ≡ withChunk (firstOf 0xF504 (placed 48 cs)) (responseHeader (h .saved) k) t4
 response-read h fits timescale k client cs fit room t4 =
-    let q = header (h .saved) k in
-    response-accepted (datagram (h .saved) k cs) t4 (datagram-sound (h .saved) k cs fit room)
+    let q = responseHeader (h .saved) k in
+    response-accepted (responseDatagram (h .saved) k cs) t4 (response-sound (h .saved) k cs fit room)
     ∙ rw (fields-written (octetsOf q) cs 48 (length-octetsOf q) fit, read-written q (chainOctets cs) (omega arith))

@@ -25,7 +25,7 @@ use Rattle.client_rules.proofs.Demand3.{closed-at}
 use Rattle.reach.specs.Reach.{EveryInRange}
 use Rattle.reach.proofs.Only.{head-after}
 use Rattle.reach.proofs.Calls.{by-outcome, From, call, Polls, ask, round}
-use Rattle.reach.proofs.Rounds.{choose, idle, Leads, rounds}
+use Rattle.reach.proofs.Rounds.{choose, noneOutstanding, Leads, rounds}
 
 -- where a test chooses between another and its opposite, and that holds, they are one
 same-test : (a b : Bool) → cond a b (not b) ≡ true → a ≡ b
@@ -44,7 +44,7 @@ module _ {a : ℕ} (inside : a < 16) (h : Head) (fits : HeadFits h) (r : OpenRan
 
   -- calls lead to the head from its place as it was before the last request
   abbrev Before : List ℕ → Option ℕ → Type 0
-  Before f last = From a (opened (idle h (h .next) (h .taken) f last (savedIn (h .saved)))) h
+  Before f last = From a (opened (noneOutstanding h (h .next) (h .taken) f last (savedIn (h .saved)))) h
 
   -- no call is left
   there : (o : Opened) (f : List ℕ) → o ≡ openedIn h f → From a (opened o) h
@@ -64,7 +64,7 @@ module _ {a : ℕ} (inside : a < 16) (h : Head) (fits : HeadFits h) (r : OpenRan
   unsaved e =
       let taken = eqb-true (h .taken) 0 (rw (e, or-false) at (r .taken-saved)) in
       let next : h .next ≡ 0 = ⊎-elim (λ k. omega arith) (λ k. omega arith) (r .taken) in
-      let same : fresh (h .timescale) (h .chunk) ≡ idle h (h .next) (h .taken) (replicate 512 0) none (savedIn (h .saved)) = rw (next, taken, e) in
+      let same : fresh (h .timescale) (h .chunk) ≡ noneOutstanding h (h .next) (h .taken) (replicate 512 0) none (savedIn (h .saved)) = rw (next, taken, e) in
       subst⁻¹ (λ (o : Opened). From a (opened o) h) same
       (by-outcome (eqb (h .outstanding) 0) (λ t. there _ (replicate 512 0) (rw (last-test, t, e))) (λ t. asking _ none t (last-polls (rw t) refl)))
 
@@ -81,30 +81,30 @@ module _ {a : ℕ} (inside : a < 16) (h : Head) (fits : HeadFits h) (r : OpenRan
 
       ends : Leads a h (h .next) (h .taken)
       ends f last v n =
-          let once : (k : ℕ) → Polls k last → Before f (some k) → From a (opened (idle h (h .next) (h .taken) f last v)) h =
-          λ k p l. round inside h fits timescale nonzero (idle h (h .next) (h .taken) f last v) k p [] tt tt (omega arith) (rw e at l) in
+          let once : (k : ℕ) → Polls k last → Before f (some k) → From a (opened (noneOutstanding h (h .next) (h .taken) f last v)) h =
+          λ k p l. round inside h fits timescale nonzero (noneOutstanding h (h .next) (h .taken) f last v) k p [] tt tt (omega arith) (rw e at l) in
           by-outcome (eqb (h .outstanding) 0)
           (λ t. let z = last-polls (rw (t, e)) n in once (h .last .0) z (there _ f (rw (t, ne-eqb (h .last .0) 0 (z .nonzero)))))
           (λ t. let k = choose (h .last .0) last in once (k .cookie) (k .polls) (asking f _ t (last-polls (rw t) (k .before))))
 
-  from-closed : From a closed h
+  open-from-closed : From a closed h
   unfolding placeDo
-  from-closed =
+  open-from-closed =
       let high = r .chunk-high in
       call inside (openOne a (h .timescale) (h .chunk)) (Open (h .timescale) (h .chunk)) [] (omega arith, r .timescale, omega arith) (λ ps. refl) (rw (r .chunk))
       (by-outcome (eqb (h .saved .t4) 0) unsaved saved)
 
--- the head, open or closed
-reached : {a : ℕ} → a < 16 → (h : Head) → HeadFits h → inRange h ≡ true → From a closed h
+-- an open head or a closed one
+head-from-closed : {a : ℕ} → a < 16 → (h : Head) → HeadFits h → inRange h ≡ true → From a closed h
 unfolding after
-reached inside h fits g =
+head-from-closed inside h fits g =
     by-outcome (eqb (h .state) 0)
     (λ e. record { calls = []; typed = tt; leads = λ ps n at. ap placeHead at ∙ rw e at (heads-back h [] g) })
-    (λ e. from-closed inside h fits (open-ranges h g (eqb-false _ _ e)))
+    (λ e. open-from-closed inside h fits (open-ranges h g (eqb-false _ _ e)))
 
 pub every-in-range : EveryInRange
 every-in-range a inside h fits g =
-    let l = reached inside h fits g in
+    let l = head-from-closed inside h fits g in
     record {
       calls = l .calls;
       typed = l .typed;

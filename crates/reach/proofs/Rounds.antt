@@ -48,12 +48,12 @@ choose z last =
     either k h f g = by-outcome (isLast (suc k) last) (λ e. this (suc k) (omega arith) g (after-last (suc k) last e)) (this k (omega arith) f)
 
 -- an open place with the head's timescale and chunk size where no request is outstanding
-abbrev pub idle : Head → (next taken : ℕ) → List ℕ → Option ℕ → Option Exchange → Opened
-idle h next taken f last v = record { timescale = h .timescale; chunk = h .chunk; next = next; filter = f; taken = firstTaken taken; last = last; outstanding = none; saved = v }
+abbrev pub noneOutstanding : Head → (next taken : ℕ) → List ℕ → Option ℕ → Option Exchange → Opened
+noneOutstanding h next taken f last v = record { timescale = h .timescale; chunk = h .chunk; next = next; filter = f; taken = firstTaken taken; last = last; outstanding = none; saved = v }
 
 -- calls lead to the head from each such place whose last cookie isn't the head's
 abbrev pub Leads : ℕ → Head → (next taken : ℕ) → Type 0
-Leads a h next taken = (f : List ℕ) (last : Option ℕ) (v : Option Exchange) → isLast (h .last .0) last ≡ false → From a (opened (idle h next taken f last v)) h
+Leads a h next taken = (f : List ℕ) (last : Option ℕ) (v : Option Exchange) → isLast (h .last .0) last ≡ false → From a (opened (noneOutstanding h next taken f last v)) h
 
 -- a chunk at offset n, where those before it were taken, or all
 one-more : (all : Bool) (n c : ℕ) → n + c ≤ 512 → paste (firstTaken (cond all 512 n)) n (replicate c true) c ≡ firstTaken (cond all 512 (n + c))
@@ -72,7 +72,7 @@ module _ {a : ℕ} (inside : a < 16) (h : Head) (fits : HeadFits h) (r : OpenRan
       let k = choose (h .last .0) last in
       let zeros = content 0xF504 (replicate c 0) in
       let size = length-replicate {A = ℕ} c 0 in
-      round inside h fits timescale nonzero (idle h n (cond all 512 n) f last v) (k .cookie) (k .polls)
+      round inside h fits timescale nonzero (noneOutstanding h n (cond all 512 n) f last v) (k .cookie) (k .polls)
       (zeros ∷ []) (record { kind = lit< tt; long = omega arith }, tt) (zeros-octets c, tt) (omega (arith, length-chain-one zeros))
       (rw (size, eq-eqb c c refl, one-more all n c b) (l _ (some (k .cookie)) (some (exchangeIn (h .saved))) (k .before)))
 
