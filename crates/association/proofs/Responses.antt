@@ -12,11 +12,7 @@ use Rattle.octets.specs.Part.{copyAt}
 use Rattle.octets.proofs.Parts.{overwritten}
 use Rattle.exchange.specs.Judging.{outcomeOf}
 use Rattle.exchange.specs.declared.response.Response.{Response}
-
--- by both outcomes of a test
-pub by-test : {X : Type 0} (P : X → Type 0) (b : Bool) {x y : X} → (b ≡ true → P x) → (b ≡ false → P y) → P (cond b x y)
-by-test P true f g = f refl
-by-test P false f g = g refl
+use Rattle.state.proofs.Tests.{by-test}
 
 -- a response's numbers fit, and its chunk lies in the datagram
 pub record GoodResponse (r : Response) (datagram : List ℕ) : Type 0 where

@@ -11,15 +11,16 @@ use Rattle.poll_request.specs.Request.{pollLength}
 use Rattle.state.specs.Range.{inRange}
 use Rattle.association.specs.Record.{headOf, headOctets, recordOctets}
 use Rattle.state.specs.Plain.{Place, isLast, placeDo}
-use Rattle.state.specs.Numbers.{cookieIn, placeOf}
+use Rattle.state.specs.Numbers.{cookieIn, placeIn}
 use Rattle.association.specs.Encode.{decode}
 use Rattle.association.specs.Step.{onOctets}
 use Rattle.state.specs.declared.event.Event.the-variants.{Poll}
 use Rattle.state.specs.declared.event.Reply.{Reply}
 use Rattle.state.specs.declared.head.Head.{Head}
-use Rattle.association.proofs.Responses.{by-test}
 use Rattle.state.proofs.Ranges.{and-right, open-ranges}
 use Rattle.client_rules.specs.Octets.{tableOctets, part, atOctets}
+use Rattle.client_rules.specs.Step.{eventOn}
+use Rattle.state.proofs.Tests.{by-test}
 
 pub record Room (r : Reply) (room : ℕ) : Type 0 where
   pub low : 16 ≤ r .asked .chunk
@@ -33,7 +34,7 @@ module _ (cookie : ℕ) (interleaved : Bool) (room : ℕ) where
   abbrev ReplyFits : Reply × Place → Type 0
   ReplyFits w = Fits (w .0)
 
-  head-room : (h : Head) (datagram f : List ℕ) → inRange h ≡ true → Fits (placeDo (Poll (record { 0 = cookie }) interleaved room) datagram (placeOf h f) .0)
+  head-room : (h : Head) (datagram f : List ℕ) → inRange h ≡ true → Fits (placeDo (Poll (record { 0 = cookie }) interleaved room) datagram (placeIn h f) .0)
   unfolding placeDo
   head-room h datagram f g =
       by-test (λ (p : Place). Fits (placeDo (Poll (record { 0 = cookie }) interleaved room) datagram p .0)) (eqb (h .state) 0) (λ t z. absurd (omega arith))
@@ -49,6 +50,6 @@ module _ (cookie : ℕ) (interleaved : Bool) (room : ℕ) where
       (λ t z. absurd (omega arith))
 
   pub poll-room : (a : ℕ) (datagram t : List ℕ) → Fits (atOctets a (Poll (record { 0 = cookie }) interleaved room) datagram t .0)
-  unfolding atOctets
+  unfolding eventOn
   poll-room a datagram t =
       by-test (λ (w : Reply × List ℕ). Fits (w .0)) (eqb (length t) tableOctets && ltb a 16) (λ u. record-room datagram (part a t)) (λ u z. absurd (omega arith))

@@ -8,7 +8,7 @@ use lib.ListN.{replicate}
 use borrow.Author.Tests.{ne-eqb, eq-eqb}
 use Rattle.state.specs.Rules.{plainReply}
 use Rattle.state.specs.Plain.{opened, fresh, reported, refuseAt, placeDo, Outstanding, Place, received, replyOf}
-use Rattle.state.specs.Numbers.{noRequest, noneSaved, placeOf, requestIn, openedIn}
+use Rattle.state.specs.Numbers.{noRequest, noneSaved, placeIn, requestIn, openedIn}
 use Rattle.state.specs.Change.{change, Leaves}
 use Rattle.state.specs.declared.event.Event.the-variants.{Sent, Receive}
 use Rattle.state.specs.declared.head.Head.{Head}
@@ -38,8 +38,8 @@ opened-fresh h timescale c = record { leaves = λ datagram f. ap (λ (k : ℕ). 
 
 module _ (h : Head) (t1 : ℕ) (timed : t1 ≡ 0 → ⊥) (datagram f : List ℕ) where
   abbrev ByTests : Type 0
-  ByTests = placeDo (Sent t1) datagram (placeOf h f)
-      ≡ cond (eqb (h .state) 0 || eqb (h .outstanding) 0 || not (eqb (h .request .t1) 0)) (refuseAt 7 (placeOf h f)) (plainReply 0, opened (reported t1 (openedIn h f) (requestIn h)))
+  ByTests = placeDo (Sent t1) datagram (placeIn h f)
+      ≡ cond (eqb (h .state) 0 || eqb (h .outstanding) 0 || not (eqb (h .request .t1) 0)) (refuseAt 7 (placeIn h f)) (plainReply 0, opened (reported t1 (openedIn h f) (requestIn h)))
 
   pub reports : ByTests
   unfolding placeDo
@@ -60,7 +60,7 @@ module _ (r : Response) (h : Head) (datagram f : List ℕ) where
       cond (r .interleaved && eqb (k .server) 0) (refuseAt 10 (opened (openedIn h f)))
       (replyOf r (openedIn h f) k, opened (received r datagram (openedIn h f) k))
 
-  pub asked : (r .t4 ≡ 0 → ⊥) → (h .state ≡ 0 → ⊥) → r .refusal ≡ 0 → placeDo (Receive r) datagram (placeOf h f)
+  pub asked : (r .t4 ≡ 0 → ⊥) → (h .state ≡ 0 → ⊥) → r .refusal ≡ 0 → placeDo (Receive r) datagram (placeIn h f)
       ≡ cond (eqb (h .outstanding) 0 || not (eqb (r .client .0) (h .last .0))) (refuseAt 9 (opened (openedIn h f))) (rest (requestIn h))
   unfolding placeDo
   asked timed is-open sound =

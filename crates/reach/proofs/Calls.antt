@@ -1,6 +1,6 @@
 -- Calls that lead from a place to a head: a poll with its T1, and a round of these and an answer. Assumes nothing.
 use mathlib.Core.Path.{_≡_, refl, ap, _∙_}
-use mathlib.Core.Bool.{Bool, true, false}
+use mathlib.Core.Bool.{Bool, false}
 use mathlib.Core.List.{List, [], _∷_}
 use mathlib.Core.Option.{Option, some}
 use Prim.Native.Nat.{ℕ, _^_, _≤_, _<_}
@@ -28,14 +28,11 @@ use Rattle.state.specs.declared.head.Head.{Head}
 use Rattle.state.specs.declared.head.Saved.{Saved}
 use Rattle.order.specs.Order.{TaggedCall, after, EveryCall}
 use Rattle.client_rules.specs.Call.{Call, poll, sent, receive, Typed}
-use Rattle.client_rules.specs.Plain.{atPlace, stepPlain}
+use Rattle.client_rules.specs.Plain.{stepPlain}
 use Rattle.client_rules.proofs.Simulate.{at-in}
 use Rattle.reach.proofs.Datagram.{responseHeader, responseDatagram, response-octets, response-read}
-
--- by a test's outcome
-pub by-outcome : {P : Type 0} (b : Bool) → (b ≡ true → P) → (b ≡ false → P) → P
-by-outcome true f g = f refl
-by-outcome false f g = g refl
+use Rattle.client_rules.proofs.Tables.{atPlace}
+use Rattle.state.proofs.Tests.{by-outcome}
 
 -- calls lead to a head from each table of sixteen in which association a has the place p
 pub record From (a : ℕ) (p : Place) (h : Head) : Type 0 where

@@ -50,8 +50,8 @@ pub response-octets : (v : Saved) (k : ℕ) (cs : List Content) → AllOctets cs
 unfolding octetsOf
 response-octets v k cs o = both-octets (octetsOf (responseHeader v k)) (chainOctets cs) (spelled-octets (layout (responseHeader v k))) (chain-octets cs o)
 
-response-sound : (v : Saved) (k : ℕ) (cs : List Content) → AllFit cs → length (chainOctets cs) ≤ 1232 → soundRefusal (responseDatagram v k cs) 4 ≡ 0
-response-sound v k cs fit room =
+sound-response : (v : Saved) (k : ℕ) (cs : List Content) → AllFit cs → length (chainOctets cs) ≤ 1232 → soundRefusal (responseDatagram v k cs) 4 ≡ 0
+sound-response v k cs fit room =
     let q = responseHeader v k in
     let l : length (responseDatagram v k cs) ≡ 48 + length (chainOctets cs) = omega (arith, length-append (octetsOf q) (chainOctets cs), length-octetsOf q) in
     sound-datagram (responseDatagram v k cs) 4
@@ -62,5 +62,5 @@ pub response-read : (h : Head) → HeadFits h → h .saved .timescale < 256 → 
     → (t4 : ℕ) → responseOf (responseDatagram (h .saved) k cs) t4 ≡ withChunk (firstOf 0xF504 (placed 48 cs)) (responseHeader (h .saved) k) t4
 response-read h fits timescale k client cs fit room t4 =
     let q = responseHeader (h .saved) k in
-    response-accepted (responseDatagram (h .saved) k cs) t4 (response-sound (h .saved) k cs fit room)
+    response-accepted (responseDatagram (h .saved) k cs) t4 (sound-response (h .saved) k cs fit room)
     ∙ rw (fields-written (octetsOf q) cs 48 (length-octetsOf q) fit, read-written q (chainOctets cs) (omega arith))

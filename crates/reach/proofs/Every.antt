@@ -24,8 +24,9 @@ use Rattle.client_rules.specs.Plain.{closedTable}
 use Rattle.client_rules.proofs.Demand3.{closed-at}
 use Rattle.reach.specs.Reach.{EveryInRange}
 use Rattle.reach.proofs.Only.{head-after}
-use Rattle.reach.proofs.Calls.{by-outcome, From, call, Polls, ask, round}
+use Rattle.reach.proofs.Calls.{From, call, Polls, ask, round}
 use Rattle.reach.proofs.Rounds.{choose, noneOutstanding, Leads, rounds}
+use Rattle.state.proofs.Tests.{by-outcome}
 
 -- where a test chooses between another and its opposite, and that holds, they are one
 same-test : (a b : Bool) → cond a b (not b) ≡ true → a ≡ b

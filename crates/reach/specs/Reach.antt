@@ -21,11 +21,12 @@ headAfter t cs a = headOf (part a (reached t cs))
 abbrev pub OnlyInRange : Type 0
 OnlyInRange = (t : List ℕ) → length t ≡ tableOctets → (cs : List (TaggedCall Call)) → EveryCall Typed cs → (a : ℕ) → a < 16 → inRange (headAfter t cs a) ≡ true
 
--- and to every one of them, of any association of any table
+-- calls that lead association a of any table to this head
 pub record LeadsTo (a : ℕ) (h : Head) : Type 0 where
   pub calls : List (TaggedCall Call)
   pub typed : EveryCall Typed calls
   pub leads : (t : List ℕ) → length t ≡ tableOctets → headAfter t calls a ≡ h
 
+-- and to every one whose numbers have 64 bits, as those of a record have
 abbrev pub EveryInRange : Type 0
 EveryInRange = (a : ℕ) → a < 16 → (h : Head) → HeadFits h → inRange h ≡ true → LeadsTo a h

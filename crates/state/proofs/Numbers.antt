@@ -10,7 +10,8 @@ use lib.Seq.{paste}
 use borrow.Author.Tests.{eqb-true, eqb-false}
 use Rattle.state.specs.Range.{inRange, closedInRange, requestAbsent, savedAbsent, requestInRange, savedInRange}
 use Rattle.state.specs.Plain.{Exchange, closed, opened, isLast, previous, savedServer}
-use Rattle.state.specs.Numbers.{closedHead, noRequest, noneSaved, firstTaken, countTaken, openedIn, requestIn, outstandingIn, cookieIn, exchangeIn, savedIn, cookieOf, outstandingOf, requestOf, savedOf, placeHead, HeadsBack, takenAfter}
+use Rattle.state.specs.Numbers.{closedHead, noRequest, noneSaved, firstTaken, countTaken, openedIn, requestIn, outstandingIn, cookieIn, exchangeIn, savedIn, cookieOf, outstandingOf, requestOf, savedOf, placeHead, HeadsBack}
+use Rattle.state.specs.Change.{takenAfter}
 use Rattle.state.specs.declared.head.Request.{Request}
 use Rattle.state.specs.declared.head.Saved.{Saved}
 use Rattle.state.specs.declared.head.Head.{Head}

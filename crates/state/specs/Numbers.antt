@@ -38,10 +38,6 @@ unfoldable pub countTaken : List Bool → ℕ
 countTaken [] = 0
 countTaken (b ∷ bs) = cond b 1 0 + countTaken bs
 
--- with one chunk more: once all 512 were taken they stay taken
-abbrev pub takenAfter : ℕ → ℕ → ℕ
-takenAfter taken c = cond (eqb taken 512) 512 (taken + c)
-
 abbrev pub cookieOf : Option ℕ → ℕ
 cookieOf none = 0
 cookieOf (some k) = k
@@ -113,8 +109,8 @@ openedIn h f = record {
   saved = savedIn (h .saved);
 }
 
-abbrev pub placeOf : Head → List ℕ → Place
-placeOf h f = cond (eqb (h .state) 0) closed (opened (openedIn h f))
+abbrev pub placeIn : Head → List ℕ → Place
+placeIn h f = cond (eqb (h .state) 0) closed (opened (openedIn h f))
 
 -- each number is one of 64 bits
 pub record HeadFits (h : Head) : Type 0 where
@@ -138,4 +134,4 @@ pub record HeadFits (h : Head) : Type 0 where
 -- NOTHING IS LOST: numbers in range come back from the place that they stand for
 
 abbrev pub HeadsBack : Type 0
-HeadsBack = (h : Head) (f : List ℕ) → inRange h ≡ true → placeHead (placeOf h f) ≡ h
+HeadsBack = (h : Head) (f : List ℕ) → inRange h ≡ true → placeHead (placeIn h f) ≡ h

@@ -22,9 +22,9 @@ use Rattle.order.specs.Order.{TaggedCall, after, EveryCall}
 use Rattle.order.proofs.Permutations.{every-left, every-right}
 use Rattle.order.proofs.Simulate.{after-append}
 use Rattle.client_rules.specs.Call.{Call, Typed, Answer, plainAnswer, writtenAnswer, pollAnswer}
-use Rattle.client_rules.specs.Plain.{closedTable, atPlace, stepPlain}
+use Rattle.client_rules.specs.Plain.{closedTable, stepPlain}
 use Rattle.client_rules.specs.Claim.{placeAfter}
-use Rattle.client_rules.proofs.Tables.{GoodTable, good-at}
+use Rattle.client_rules.proofs.Tables.{GoodTable, good-at, atPlace}
 use Rattle.client_rules.proofs.Simulate.{at-in, at-out}
 use Rattle.client_rules.proofs.Demand3.{simulates, good-reached, call-reached}
 use Rattle.together.specs.Together.{Polling, pollOf, polled, callsOf, Asks}

@@ -16,15 +16,15 @@ use Rattle.state.specs.Plain.{Outstanding, Opened, Place, closed, opened, polle
 use Rattle.state.specs.declared.event.Event.{Event}
 use Rattle.state.specs.declared.event.Event.the-variants.{Poll, Sent}
 use Rattle.state.specs.declared.event.Reply.{Reply}
-use Rattle.association.proofs.Responses.{by-test}
 use Rattle.association.proofs.Reached.{by-request}
 use Rattle.order.specs.Order.{TaggedCall, after, EveryCall}
 use Rattle.client_rules.specs.Call.{Call, clearTable, openOne, closeOne, poll, sent, receive, loopVerdict, publish, Typed}
-use Rattle.client_rules.specs.Plain.{atPlace, stepPlain}
-use Rattle.client_rules.proofs.Tables.{GoodTable}
+use Rattle.client_rules.specs.Plain.{stepPlain}
+use Rattle.client_rules.proofs.Tables.{GoodTable, atPlace}
 use Rattle.client_rules.proofs.Simulate.{at-in, at-other}
 use Rattle.client_rules.proofs.Demand3.{simulates}
 use Rattle.together.specs.Together.{leavesRequest}
+use Rattle.state.proofs.Tests.{by-test}
 
 -- what a poll asks of an open place
 abbrev pub askedOf : Bool → Opened → Asked

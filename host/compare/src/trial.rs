@@ -155,13 +155,15 @@ fn any(kind: Kind, random: &mut Random, keep: bool, met: &mut Met) -> Result<u64
     Ok(length as u64)
 }
 
-/// The clause that is broken in the one head that a refused call was to read.
+/// The clause that is broken in the one head that a refused call was to read, unless the call's
+/// own arguments are refused with 6 too.
 fn refused_for(call: &Call, told: &Told, broken: &Broken) -> Option<Clause> {
     let named = reorder::names(call);
     if told.returned.refusal() != 6 || !named.is_power_of_two() {
         return None;
     }
-    broken[named.trailing_zeros() as usize]
+    let clause = broken[named.trailing_zeros() as usize]?;
+    (Plain::new(1).make(call).returned.refusal() != 6).then_some(clause)
 }
 
 impl Trial {

@@ -148,7 +148,7 @@ pub fn changed(random: &mut Random) -> Head {
     head
 }
 
-/// A head in which this clause is broken and no other.
+/// A head in which this clause is broken; the others hold where they can without it.
 pub fn broken(random: &mut Random, clause: Clause) -> Head {
     let (asked, saved) = clause.occasion(random);
     let mut head = match clause {
