@@ -1,6 +1,6 @@
 -- Calls lead to every head in range. Assumes nothing.
 use mathlib.Core.Path.{_≡_, refl, sym, ap, _∙_, subst⁻¹}
-use mathlib.Core.Bool.{Bool, true, false, cond, not, _&&_, or-false}
+use mathlib.Core.Bool.{Bool, true, false, _&&_, or-false}
 use mathlib.Core.List.{List, []}
 use mathlib.Core.Logic.{⊎-elim}
 use mathlib.Core.Option.{Option, none, some}
@@ -26,13 +26,7 @@ use Rattle.reach.specs.Reach.{EveryInRange}
 use Rattle.reach.proofs.Only.{head-after}
 use Rattle.reach.proofs.Calls.{From, call, Polls, ask, round}
 use Rattle.reach.proofs.Rounds.{choose, noneOutstanding, Leads, rounds}
-use Rattle.state.proofs.Tests.{by-outcome}
-
--- where a test chooses between another and its opposite, and that holds, they are one
-same-test : (a b : Bool) → cond a b (not b) ≡ true → a ≡ b
-same-test true b e = sym e
-same-test false true e = e
-same-test false false e = refl
+use Rattle.state.proofs.Tests.{by-outcome, same-test}
 
 module _ {a : ℕ} (inside : a < 16) (h : Head) (fits : HeadFits h) (r : OpenRanges h) where
   -- the last cookie is 0 exactly if nothing is outstanding and nothing was saved

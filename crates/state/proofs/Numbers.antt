@@ -1,21 +1,20 @@
 -- Numbers in range come back from the place that they stand for. Assumes nothing.
 use mathlib.Core.Path.{_≡_, refl, sym, subst⁻¹}
 use mathlib.Core.Bool.{Bool, true, false, cond, _||_}
-use mathlib.Core.List.{List, [], _∷_}
+use mathlib.Core.List.{List}
 use mathlib.Core.Option.{Option, none, some}
 use Prim.Native.Nat.{ℕ}
 use lib.Dec.{eqb, ltb}
 use lib.ListN.{replicate}
 use lib.Seq.{paste}
 use borrow.Author.Tests.{eqb-true, eqb-false}
-use Rattle.state.specs.Range.{inRange, closedInRange, requestAbsent, savedAbsent, requestInRange, savedInRange}
+use Rattle.state.specs.Range.{inRange, savedAbsent, requestInRange, savedInRange}
 use Rattle.state.specs.Plain.{Exchange, closed, opened, isLast, previous, savedServer}
-use Rattle.state.specs.Numbers.{closedHead, noRequest, noneSaved, firstTaken, countTaken, openedIn, requestIn, outstandingIn, cookieIn, exchangeIn, savedIn, cookieOf, outstandingOf, requestOf, savedOf, placeHead, HeadsBack}
+use Rattle.state.specs.Numbers.{noneSaved, firstTaken, countTaken, openedIn, requestIn, outstandingIn, cookieIn, exchangeIn, savedIn, cookieOf, outstandingOf, requestOf, savedOf, placeHead, HeadsBack}
 use Rattle.state.specs.Change.{takenAfter}
-use Rattle.state.specs.declared.head.Request.{Request}
 use Rattle.state.specs.declared.head.Saved.{Saved}
 use Rattle.state.specs.declared.head.Head.{Head}
-use Rattle.state.proofs.Ranges.{each, OpenRanges, open-ranges, asked-ranges}
+use Rattle.state.proofs.Ranges.{none-saved, none-asked, closed-back, OpenRanges, open-ranges, asked-ranges}
 use Rattle.state.proofs.Flags.{count-first, onward}
 
 pub cookie-back : (k : ℕ) → cookieOf (cookieIn k) ≡ k
@@ -37,18 +36,6 @@ is-last cookie last = go (eqb last 0) refl
     go true e = rw (eqb-true last 0 e) (or-same (eqb cookie 0))
     go false e = refl
 
-none-saved : (v : Saved) → savedAbsent v ≡ true → v ≡ noneSaved
-none-saved v a =
-    let p = each (eqb (v .timescale) 0) (eqb (v .t1) 0 ∷ eqb (v .t2) 0 ∷ eqb (v .t3) 0 ∷ eqb (v .t4) 0 ∷ eqb (v .server .0) 0 ∷ []) a in
-    λ i. record {
-      timescale = eqb-true (v .timescale) 0 (p .0) i;
-      t1 = eqb-true (v .t1) 0 (p .1 .0) i;
-      t2 = eqb-true (v .t2) 0 (p .1 .1 .0) i;
-      t3 = eqb-true (v .t3) 0 (p .1 .1 .1 .0) i;
-      t4 = eqb-true (v .t4) 0 (p .1 .1 .1 .1 .0) i;
-      server = record { 0 = eqb-true (v .server .0) 0 (p .1 .1 .1 .1 .1 .0) i };
-    }
-
 -- what was saved, or zeros
 module _ (v : Saved) (g : savedInRange v ≡ true) where
   by-saved : (P : Option Exchange → Saved → Type 0) → P none noneSaved → P (some (exchangeIn v)) v → P (savedIn v) v
@@ -66,11 +53,6 @@ module _ (v : Saved) (g : savedInRange v ≡ true) where
 
   pub server-back : savedServer (savedIn v) ≡ v .server .0
   server-back = by-saved (λ o w. savedServer o ≡ w .server .0) refl refl
-
-none-asked : (q : Request) → requestAbsent q ≡ true → q ≡ noRequest
-none-asked q a =
-    let p = each (eqb (q .server .0) 0) (eqb (q .offset) 0 ∷ eqb (q .t1) 0 ∷ []) a in
-    λ i. record { server = record { 0 = eqb-true (q .server .0) 0 (p .0) i }; offset = eqb-true (q .offset) 0 (p .1 .0) i; t1 = eqb-true (q .t1) 0 (p .1 .1 .0) i }
 
 -- the outstanding request, or zeros
 request-back : (h : Head) → requestInRange h ≡ true → (outstandingOf (outstandingIn h) ≡ h .outstanding) × (requestOf (outstandingIn h) ≡ h .request)
@@ -94,21 +76,6 @@ head-back h f o =
       outstanding = q .0 i;
       request = q .1 i;
       saved = saved-back (h .saved) (o .saved) i;
-    }
-
-closed-back : (h : Head) → eqb (h .state) 0 ≡ true → closedInRange h ≡ true → closedHead ≡ h
-closed-back h e g =
-    let p = each (eqb (h .timescale) 0) (eqb (h .chunk) 0 ∷ eqb (h .next) 0 ∷ eqb (h .taken) 0 ∷ eqb (h .last .0) 0 ∷ eqb (h .outstanding) 0 ∷ requestAbsent (h .request) ∷ savedAbsent (h .saved) ∷ []) g in
-    λ i. record {
-      state = sym (eqb-true (h .state) 0 e) i;
-      timescale = sym (eqb-true (h .timescale) 0 (p .0)) i;
-      chunk = sym (eqb-true (h .chunk) 0 (p .1 .0)) i;
-      next = sym (eqb-true (h .next) 0 (p .1 .1 .0)) i;
-      taken = sym (eqb-true (h .taken) 0 (p .1 .1 .1 .0)) i;
-      last = record { 0 = sym (eqb-true (h .last .0) 0 (p .1 .1 .1 .1 .0)) i };
-      outstanding = sym (eqb-true (h .outstanding) 0 (p .1 .1 .1 .1 .1 .0)) i;
-      request = sym (none-asked (h .request) (p .1 .1 .1 .1 .1 .1 .0)) i;
-      saved = sym (none-saved (h .saved) (p .1 .1 .1 .1 .1 .1 .1 .0)) i;
     }
 
 -- all numbers in range come back from their place

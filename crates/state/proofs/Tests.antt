@@ -1,6 +1,6 @@
 -- By the outcome of a test. Assumes nothing.
-use mathlib.Core.Path.{_≡_, refl}
-use mathlib.Core.Bool.{Bool, true, false, cond, _||_}
+use mathlib.Core.Path.{_≡_, refl, sym}
+use mathlib.Core.Bool.{Bool, true, false, cond, not, _||_}
 use Prim.Native.Nat.{ℕ}
 use native.Mathlib.Omega.{arith}
 
@@ -17,3 +17,9 @@ by-outcome false f g = g refl
 pub or-false-both : (a b : Bool) → a || b ≡ false → (a ≡ false) × (b ≡ false)
 or-false-both true b t = absurd (let z : _≡_ {A = ℕ} 0 1 = cc in omega arith)
 or-false-both false b t = (refl, t)
+
+-- where a test chooses between another and its opposite, and that holds, they are one
+pub same-test : (a b : Bool) → cond a b (not b) ≡ true → a ≡ b
+same-test true b e = sym e
+same-test false true e = e
+same-test false false e = refl
