@@ -26,7 +26,7 @@ module _ (line s s′ : List ℕ) where
   outcome-store (Written n) out = refl
   outcome-store (Refused n) out = refl
 
-  -- the store of an answer, where its output was laid
+  -- the store of an answer, where its output was written
   pub answered : (a : Answered) (request filter information out out′ : List ℕ) → out ≡ octetsAt line 16
       → outcome a out′ s′ ≡ answerOf (givenFrom line request filter information) s out
       → s′ ≡ answerOf (givenFrom line request filter information) s (octetsAt line 16) .store

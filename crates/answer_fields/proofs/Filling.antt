@@ -15,8 +15,8 @@ use Rattle.field_role.proofs.Roles.{met-none}
 use Rattle.store_rules.proofs.Rows.{or-none}
 use Rattle.responder_rules.specs.Answer.{answersTo, paddingOf, answerFields}
 use Rattle.answer_fields.specs.Fields.{wrongSizes, fieldsWritten}
-use Rattle.answer_fields.specs.Pass.{Lays, answersWith}
-use Rattle.answer_fields.proofs.Laying.{length-laid}
+use Rattle.answer_fields.specs.Pass.{WrittenAt, answersWith}
+use Rattle.answer_fields.proofs.Writing.{length-written}
 use Rattle.answer_fields.proofs.Passes.{pass-answers}
 
 -- sizes that are not wrong
@@ -48,32 +48,32 @@ module _ (s filter information out : List ℕ) (right : wrongSizes s filter info
   abbrev answers : List Content
   answers = answersWith s filter information noneMet (fieldsOf s)
 
-  module _ {m : List ℕ} {at : ℕ} (laid : Lays out 48 (chainOctets answers) at m) (most : at ≤ length s) where
+  module _ {m : List ℕ} {at : ℕ} (written : WrittenAt out 48 (chainOctets answers) at m) (most : at ≤ length s) where
     pub length-answered : length m ≡ length s
     length-answered =
-        let p = laid .place in
+        let p = written .place in
         let z = sizes in
-        length-laid laid (omega arith) ∙ z .same
+        length-written written (omega arith) ∙ z .same
 
     -- what is left is a multiple of four octets
     pub left-fours : (length s - at) % 4 ≡ 0
     left-fours =
-        let p = laid .place in
+        let p = written .place in
         let z = sizes in
         let f = chain-fours answers in
         omega arith
 
     before-padding : take at m ≡ take 48 out ++ chainOctets answers
     before-padding =
-        let p = laid .place in
+        let p = written .place in
         let z = sizes in
         let head = take 48 out in
         let xs = chainOctets answers in
         let long : length head ≡ 48 = length-take-le 48 out (omega arith) in
-        rw (laid .content, take-all (length xs) xs (omega arith)) (take-at (head ++ xs) _ at (length-append head xs ∙ rw (long, p)))
+        rw (written .content, take-all (length xs) xs (omega arith)) (take-at (head ++ xs) _ at (length-append head xs ∙ rw (long, p)))
 
     pub filled : {n : List ℕ} → n ≡ take at m ++ chainOctets (paddingOf (length m - at)) → n ≡ fieldsWritten s filter information out
     unfolding answerFields fieldsWritten
     filled q =
         let flags : answers ≡ answersTo s filter information [] (fieldsOf s) = rw (← met-none) (pass-answers s filter information [] (fieldsOf s)) in
-        q ∙ rw (right, before-padding, length-answered, laid .place, ← flags, chain-append) (append-assoc (take 48 out) (chainOctets answers) _)
+        q ∙ rw (right, before-padding, length-answered, written .place, ← flags, chain-append) (append-assoc (take 48 out) (chainOctets answers) _)

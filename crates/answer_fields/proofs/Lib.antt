@@ -1,4 +1,4 @@
 -- The laws of an answer's fields. Assumes nothing.
-pub mod Laying
+pub mod Writing
 pub mod Passes
 pub mod Filling

@@ -20,8 +20,8 @@ use Rattle.chain.proofs.Contents.{chain-append}
 use Rattle.chain.proofs.Fields.{no-field, next-field}
 use Rattle.field_role.proofs.Roles.{Suits, suits-with, metOf, met-next, role-met, unanswered-role, unanswered-met}
 use Rattle.responder_rules.specs.Answer.{answerTo, answersTo}
-use Rattle.answer_fields.specs.Pass.{Lays, answersWith}
-use Rattle.answer_fields.proofs.Laying.{lays-none, lays-next, length-laid}
+use Rattle.answer_fields.specs.Pass.{WrittenAt, answersWith}
+use Rattle.answer_fields.proofs.Writing.{written-none, written-next, length-written}
 use Rattle.responder_rules.proofs.Room.{answer-size}
 
 module _ (s filter information : List ℕ) where
@@ -44,22 +44,22 @@ module _ (s filter information : List ℕ) where
   pass-answers before (f ∷ fs) =
       rw (role-met s before f, met-next before f) (ap (λ (cs : List Content). answerTo filter information f (roleOf s before f) ++ cs) (pass-answers (before ++ (f ∷ [])) fs))
 
-  -- an answer that was laid over octets with room for the field that it answers
-  pub answer-laid : length filter ≡ 512 → length information ≡ 4 → (f : Field) (r : Role) → Suits f r → {o t : List ℕ} {at next : ℕ}
-      → Lays o at (chainOctets (answerTo filter information f r)) next t → at + (4 + padded (f .length)) ≤ length o
-      → (length t ≡ length o) × (next ≤ at + (4 + padded (f .length)))
-  answer-laid e i f r k l h =
+  -- an answer that was written over octets with room for the field that it answers
+  pub answer-written : length filter ≡ 512 → length information ≡ 4 → (f : Field) (r : Role) → Suits f r → {o t : List ℕ} {at next : ℕ}
+      → WrittenAt o at (chainOctets (answerTo filter information f r)) next t → at + (4 + padded (f .size)) ≤ length o
+      → (length t ≡ length o) × (next ≤ at + (4 + padded (f .size)))
+  answer-written e i f r k l h =
       let size = answer-size s filter information e i f r k in
       let place = l .place in
-      (length-laid l (omega arith), omega arith)
+      (length-written l (omega arith), omega arith)
 
--- a pass that has come to a place: once the rest is laid, all is
+-- a pass that has come to a place: once the rest is written, all is
 pub record Passing (s filter information out₀ : List ℕ) (place : ℕ) (m : Met) (at : ℕ) (out : List ℕ) : Type 0 where
   pub same : length out ≡ length out₀
   pub low : at ≤ place
   pub high : place ≤ length s
-  pub rest : (r : ℕ) (t : List ℕ) → Lays out at (chainOctets (answersWith s filter information m (fieldsFrom s place))) r t → r ≤ length s
-      → Lays out₀ 48 (chainOctets (answersWith s filter information noneMet (fieldsFrom s 48))) r t
+  pub rest : (r : ℕ) (t : List ℕ) → WrittenAt out at (chainOctets (answersWith s filter information m (fieldsFrom s place))) r t → r ≤ length s
+      → WrittenAt out₀ 48 (chainOctets (answersWith s filter information noneMet (fieldsFrom s 48))) r t
 
 module _ (s filter information out₀ : List ℕ) where
   pub pass-begins : 48 ≤ length s → Passing s filter information out₀ 48 noneMet 48 out₀
@@ -68,25 +68,25 @@ module _ (s filter information out₀ : List ℕ) where
   module _ {place : ℕ} {m : Met} {at : ℕ} {out : List ℕ} (p : Passing s filter information out₀ place m at out) where
     -- no field is left
     pass-done : answersWith s filter information m (fieldsFrom s place) ≡ []
-        → Lays out₀ 48 (chainOctets (answersWith s filter information noneMet (fieldsFrom s 48))) at out × (at ≤ length s)
+        → WrittenAt out₀ 48 (chainOctets (answersWith s filter information noneMet (fieldsFrom s 48))) at out × (at ≤ length s)
     unfolding chainOctets
     pass-done e =
         let a = p .low in
         let b = p .high in
-        (p .rest at out (rw e (lays-none out at)) (omega arith), omega arith)
+        (p .rest at out (rw e (written-none out at)) (omega arith), omega arith)
 
     pub pass-stops : (t : Step) → t ≡ stepAt s place → Stopped t
-        → Lays out₀ 48 (chainOctets (answersWith s filter information noneMet (fieldsFrom s 48))) at out × (at ≤ length s)
+        → WrittenAt out₀ 48 (chainOctets (answersWith s filter information noneMet (fieldsFrom s 48))) at out × (at ≤ length s)
     pass-stops t e o = pass-done (pass-ended s filter information place t e m o)
 
     pub pass-ends : length s ≤ place
-        → Lays out₀ 48 (chainOctets (answersWith s filter information noneMet (fieldsFrom s 48))) at out × (at ≤ length s)
+        → WrittenAt out₀ 48 (chainOctets (answersWith s filter information noneMet (fieldsFrom s 48))) at out × (at ≤ length s)
     pass-ends h = pass-stops End (sym (at-end s place h)) at-an-end
 
-    -- a field is found, and its answer is laid
+    -- a field is found, and its answer is written
     module _ (filters : length filter ≡ 512) (four : length information ≡ 4) (room : length s ≤ length out₀) (t : Step) (e : t ≡ stepAt s place)
         (f : Field) (c : Cursor) (q : t ≡ Found f c) where
-      pub pass-room : at + (4 + padded (f .length)) ≤ length out
+      pub pass-room : at + (4 + padded (f .size)) ≤ length out
       pass-room =
           let a = p .low in
           let b = p .same in
@@ -94,20 +94,20 @@ module _ (s filter information out₀ : List ℕ) where
           omega (arith, reached-exactly s place f c (sym e ∙ q))
 
       pub pass-goes-on : {role : Role} {next : ℕ} {out′ : List ℕ} {m′ : Met} → role ≡ roleWith s f m → m′ ≡ metAfter m (f .kind)
-          → Lays out at (chainOctets (answerTo filter information f role)) next out′ → Passing s filter information out₀ (c .at) m′ next out′
+          → WrittenAt out at (chainOctets (answerTo filter information f role)) next out′ → Passing s filter information out₀ (c .at) m′ next out′
       pass-goes-on {role} {next} {out′} {m′} er em l =
-          let laid = answer-laid s filter information filters four f role (subst⁻¹ (Suits f) er (suits-with s f m)) l pass-room in
+          let written = answer-written s filter information filters four f role (subst⁻¹ (Suits f) er (suits-with s f m)) l pass-room in
           let a = p .low in
           let b = p .same in
           let r = reached s place t f c e q in
           record {
-            same = laid .0 ∙ b;
+            same = written .0 ∙ b;
             low = omega (arith, reached-exactly s place f c (sym e ∙ q));
             high = r .1;
-            rest = λ end u rest k. p .rest end u (rw (pass-next s filter information place t e m f c q, chain-append, ← er, ← em) (lays-next l rest (omega arith))) k;
+            rest = λ end u rest k. p .rest end u (rw (pass-next s filter information place t e m f c q, chain-append, ← er, ← em) (written-next l rest (omega arith))) k;
           }
 
       -- a field of a type that is not answered is passed over
       pub pass-skips : isAnswered (f .kind) ≡ false → Passing s filter information out₀ (c .at) m at out
       unfolding chainOctets
-      pass-skips u = pass-goes-on (unanswered-role f m u s) (unanswered-met f m u) (lays-none out at)
+      pass-skips u = pass-goes-on (unanswered-role f m u s) (unanswered-met f m u) (written-none out at)

@@ -11,7 +11,7 @@ use Rattle.field_role.specs.declared.Met.{Met}
 use Rattle.responder_rules.specs.Answer.{answerTo}
 
 -- the octets xs were written over s from `at` on, which gives t, and `next` is the place after them
-pub record Lays (s : List ℕ) (at : ℕ) (xs : List ℕ) (next : ℕ) (t : List ℕ) : Type 0 where
+pub record WrittenAt (s : List ℕ) (at : ℕ) (xs : List ℕ) (next : ℕ) (t : List ℕ) : Type 0 where
   pub place : next ≡ at + length xs
   pub content : t ≡ paste s at xs (length xs)
 

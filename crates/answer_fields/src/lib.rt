@@ -17,12 +17,12 @@ ghost use Rattle.field_role.specs.Role.{noneMet};
 ghost use Rattle.field_role.proofs.Roles.{Suits};
 ghost use Rattle.responder_rules.specs.Answer.{answerTo, paddingOf};
 ghost use Rattle.answer_fields.specs.Fields.{fieldsWritten};
-ghost use Rattle.answer_fields.specs.Pass.{Lays, answersWith};
+ghost use Rattle.answer_fields.specs.Pass.{WrittenAt, answersWith};
 
 // Writes a field whose data are n octets of `source` from `from` on, and answers the place after it.
 fn put_field(kind: u16, source: &[u8], from: usize, n: usize, out: &mut [u8], at: usize) -> usize
     requires { ⌜ (n ≤ 512) × (from + n ≤ length (now source)) × (at + (4 + padded n) ≤ length (now out)) ⌝ }
-    ensures { λ r. ⌜ Lays (now (out .entry)) at (chainOctets (content kind (take n (drop from (now (source .entry)))) ∷ [])) r (now (out .exit)) ⌝ }
+    ensures { λ r. ⌜ WrittenAt (now (out .entry)) at (chainOctets (content kind (take n (drop from (now (source .entry)))) ∷ [])) r (now (out .exit)) ⌝ }
 {
     let padded = (n + 3) / 4 * 4;
     number::put16(out, at, kind);
@@ -49,10 +49,10 @@ fn answer_to(
     at: usize,
 ) -> usize
     requires { ⌜ Suits field role × (length (now filter) ≡ 512) × (length (now information) ≡ 4)
-        × (at + (4 + padded (field .length)) ≤ length (now out)) ⌝ }
-    ensures { λ r. ⌜ Lays (now (out .entry)) at (chainOctets (answerTo (now (filter .entry)) (now (information .entry)) field role)) r (now (out .exit)) ⌝ }
+        × (at + (4 + padded (field .size)) ≤ length (now out)) ⌝ }
+    ensures { λ r. ⌜ WrittenAt (now (out .entry)) at (chainOctets (answerTo (now (filter .entry)) (now (information .entry)) field role)) r (now (out .exit)) ⌝ }
 {
-    let n = field.length;
+    let n = field.size;
     match role {
         Role::FilterRequest(offset) => put_field(0xF504, filter, offset as usize, n, out, at),
         Role::Information => put_field(0xF505, information, 0, 4, out, at),
@@ -65,7 +65,7 @@ fn answer_to(
 // stack than one.
 fn answers(request: &[u8], filter: &[u8], information: &[u8], out: &mut [u8]) -> usize
     requires { ⌜ (length (now filter) ≡ 512) × (length (now information) ≡ 4) × (length (now request) ≤ length (now out)) × (48 ≤ length (now request)) ⌝ }
-    ensures { λ r. ⌜ Lays (now (out .entry)) 48
+    ensures { λ r. ⌜ WrittenAt (now (out .entry)) 48
         (chainOctets (answersWith (now (request .entry)) (now (filter .entry)) (now (information .entry)) noneMet (fieldsFrom (now (request .entry)) 48)))
         r (now (out .exit)) × (r ≤ length (now (request .entry))) ⌝ }
 {

@@ -16,10 +16,14 @@ pub fn wants_interleaved(asked: Header) -> bool
 }
 
 // The server cookie that an answer carries: the fresh one, where the request wants an interleaved answer.
-fn cookie_of(interleaved: bool, fresh: ServerCookie) -> ServerCookie
-    ensures { λ r. ⌜ r .0 ≡ cond interleaved (fresh .0) 0 ⌝ }
+fn cookie_of(interleaved: bool, fresh_cookie: ServerCookie) -> ServerCookie
+    ensures { λ r. ⌜ r .0 ≡ cond interleaved («fresh_cookie» .0) 0 ⌝ }
 {
-    if interleaved { fresh } else { ServerCookie(0) }
+    if interleaved {
+        fresh_cookie
+    } else {
+        ServerCookie(0)
+    }
 }
 
 // The transmit time: the estimate, where none was saved.
@@ -43,13 +47,13 @@ pub fn header_of(
     asked: Header,
     receive: u64,
     estimate: u64,
-    fresh: ServerCookie,
+    fresh_cookie: ServerCookie,
     saved: u64,
 ) -> Header
-    ensures { λ r. ⌜ r ≡ answerHeader server asked receive estimate (fresh .0) saved ⌝ }
+    ensures { λ r. ⌜ r ≡ answerHeader server asked receive estimate («fresh_cookie» .0) saved ⌝ }
 {
     let flags = flags_of(server.flags, saved);
-    let server_cookie = cookie_of(wants_interleaved(asked), fresh);
+    let server_cookie = cookie_of(wants_interleaved(asked), fresh_cookie);
     let transmit = transmit_of(saved == 0, estimate, saved);
     let client_cookie = asked.client_cookie;
     Header {

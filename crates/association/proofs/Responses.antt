@@ -21,33 +21,33 @@ pub record GoodResponse (r : Response) (datagram : List ℕ) : Type 0 where
   pub receive : r .receive < 2 ^ 64
   pub transmit : r .transmit < 2 ^ 64
   pub t4 : r .t4 < 2 ^ 64
-  pub inside : r .start + r .length ≤ length datagram
+  pub inside : r .start + r .size ≤ length datagram
 
 -- a chunk is taken exactly where the first 0xF504 has c data octets
-pub taken-length : (r : Response) (c : ℕ) → eqb (outcomeOf r c) 1 ≡ true → r .length ≡ c
-taken-length r c = go (r .present) (eqb (r .length) c) refl
+pub taken-length : (r : Response) (c : ℕ) → eqb (outcomeOf r c) 1 ≡ true → r .size ≡ c
+taken-length r c = go (r .present) (eqb (r .size) c) refl
   where
-    go : (p b : Bool) → eqb (r .length) c ≡ b → eqb (cond p (cond b 1 3) 2) 1 ≡ true → r .length ≡ c
-    go true true e t = eqb-true (r .length) c e
+    go : (p b : Bool) → eqb (r .size) c ≡ b → eqb (cond p (cond b 1 3) 2) 1 ≡ true → r .size ≡ c
+    go true true e t = eqb-true (r .size) c e
     go true false e t = let z : _≡_ {A = ℕ} 0 1 = cc in absurd (omega arith)
     go false b e t = let z : _≡_ {A = ℕ} 0 1 = cc in absurd (omega arith)
 
 -- the response's chunk: its data octets
-abbrev pub chunkOf : Response → List ℕ → List ℕ
-chunkOf r datagram = take (r .length) (drop (r .start) datagram)
+abbrev pub chunkOctets : Response → List ℕ → List ℕ
+chunkOctets r datagram = take (r .size) (drop (r .start) datagram)
 
-pub length-chunk : (r : Response) (datagram : List ℕ) → GoodResponse r datagram → length (chunkOf r datagram) ≡ r .length
+pub length-chunk : (r : Response) (datagram : List ℕ) → GoodResponse r datagram → length (chunkOctets r datagram) ≡ r .size
 length-chunk r datagram h =
     let i = h .inside in
-    length-take (r .length) (drop (r .start) datagram) ∙ omega (arith, length-drop (r .start) datagram)
+    length-take (r .size) (drop (r .start) datagram) ∙ omega (arith, length-drop (r .start) datagram)
 
 -- the chunk goes to the offset of the request
-pub copied : (r : Response) (datagram f : List ℕ) (at c : ℕ) → length f ≡ 512 → at + c ≤ 512 → GoodResponse r datagram → r .length ≡ c
-    → copyAt f at datagram (r .start) c ≡ paste f at (chunkOf r datagram) c
+pub copied : (r : Response) (datagram f : List ℕ) (at c : ℕ) → length f ≡ 512 → at + c ≤ 512 → GoodResponse r datagram → r .size ≡ c
+    → copyAt f at datagram (r .start) c ≡ paste f at (chunkOctets r datagram) c
 copied r datagram f at c l h g e =
     let i = g .inside in
     let s : r .start + c ≤ length datagram = omega arith in
-    let t : take c (take (r .length) (drop (r .start) datagram)) ≡ take c (drop (r .start) datagram) = take-take c (r .length) (drop (r .start) datagram) (omega arith) in
+    let t : take c (take (r .size) (drop (r .start) datagram)) ≡ take c (drop (r .start) datagram) = take-take c (r .size) (drop (r .start) datagram) (omega arith) in
     rw (le-leb _ _ s, overwritten f at (drop (r .start) datagram) c (omega arith), t)
 
 pub length-copied : (s : List ℕ) (to : ℕ) (source : List ℕ) (from n : ℕ) → length (copyAt s to source from n) ≡ length s

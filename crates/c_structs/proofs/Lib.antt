@@ -1,2 +1,2 @@
 -- What the proofs of the exports use. Assumes nothing.
-pub mod Told
+pub mod Converted

@@ -26,7 +26,7 @@ use Rattle.c_structs.specs.declared.answers.Weight.{Weight}
 abbrev pub writtenNumbers : Written → (out : List ℕ) → Answer
 writtenNumbers r out = record {
   refusal = r .refusal;
-  length = r .length;
+  size = r .length;
   judgement = 0;
   chunk = 0;
   offset = pos 0;
@@ -38,7 +38,7 @@ writtenNumbers r out = record {
 abbrev pub receivedNumbers : Received → Answer
 receivedNumbers r = record {
   refusal = r .refusal;
-  length = 0;
+  size = 0;
   judgement = r .judgement;
   chunk = r .chunk;
   offset = r .offset;
@@ -50,7 +50,7 @@ receivedNumbers r = record {
 abbrev pub verdictNumbers : Verdict → Answer
 verdictNumbers r = record {
   refusal = r .refusal;
-  length = 0;
+  size = 0;
   judgement = 0;
   chunk = 0;
   offset = pos 0;
@@ -60,7 +60,7 @@ verdictNumbers r = record {
 }
 
 abbrev pub outcomeNumbers : Written → (out store : List ℕ) → Outcome
-outcomeNumbers r out store = record { refusal = r .refusal; length = r .length; out = out; store = store }
+outcomeNumbers r out store = record { refusal = r .refusal; size = r .length; out = out; store = store }
 
 abbrev pub weightNumbers : Weight → ℕ × ℕ
 weightNumbers r = (r .refusal, r .weight)

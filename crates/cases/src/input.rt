@@ -13,7 +13,7 @@ fn refill(file: i32, text: &mut [u8], state: Line) -> Line {
     let count = io::count(libc::read(file, text), text);
     Line {
         number: state.number,
-        length: state.length,
+        size: state.size,
         comment: state.comment,
         ended: count == 0,
         count: count,
@@ -27,17 +27,17 @@ fn finish(rows: &[u8], line: &[u8], state: Line, table: &mut [u8], kept: &mut [u
     if !state.ended {
         return state;
     }
-    let call = rows::call_of(rows, line, state.length, state.number);
+    let call = rows::call_of(rows, line, state.size, state.number);
     calls::run(
         call,
         piece(rows, call, b'\n'),
-        part(line, 0, state.length),
+        part(line, 0, state.size),
         table,
         kept,
     );
     Line {
         number: std::num::wrapping_add_u64(state.number, 1),
-        length: 0,
+        size: 0,
         comment: false,
         ended: false,
         count: state.count,
@@ -55,7 +55,7 @@ pub(crate) fn run_all(file: i32, rows: &[u8]) {
     let mut kept = [0u8; 4098];
     let mut state = Line {
         number: 1,
-        length: 0,
+        size: 0,
         comment: false,
         ended: false,
         count: 0,

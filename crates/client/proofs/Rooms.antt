@@ -9,7 +9,7 @@ use lib.Dec.{eqb, ltb}
 use lib.ListN.{length, drop}
 use Rattle.poll_request.specs.Request.{pollLength}
 use Rattle.state.specs.Range.{inRange}
-use Rattle.association.specs.Record.{headOf, headOctets, recordOctets}
+use Rattle.association.specs.Record.{headOf, headSize, recordSize}
 use Rattle.state.specs.Plain.{Place, isLast, placeDo}
 use Rattle.state.specs.Numbers.{cookieIn, placeIn}
 use Rattle.association.specs.Encode.{decode}
@@ -18,7 +18,7 @@ use Rattle.state.specs.declared.event.Event.the-variants.{Poll}
 use Rattle.state.specs.declared.event.Reply.{Reply}
 use Rattle.state.specs.declared.head.Head.{Head}
 use Rattle.state.proofs.Ranges.{and-right, open-ranges}
-use Rattle.client_rules.specs.Octets.{tableOctets, part, atOctets}
+use Rattle.client_rules.specs.Octets.{tableSize, part, atOctets}
 use Rattle.client_rules.specs.Step.{eventOn}
 use Rattle.state.proofs.Tests.{by-test}
 
@@ -45,11 +45,11 @@ module _ (cookie : ℕ) (interleaved : Bool) (room : ℕ) where
   record-room : (datagram l : List ℕ) → Fits (onOctets (Poll (record { 0 = cookie }) interleaved room) datagram l .0)
   unfolding onOctets decode
   record-room datagram l =
-      by-test (λ (w : Reply × List ℕ). Fits (w .0)) (eqb (length l) recordOctets && inRange (headOf l))
-      (λ t. head-room (headOf l) datagram (drop headOctets l) (and-right (eqb (length l) recordOctets) (inRange (headOf l)) t))
+      by-test (λ (w : Reply × List ℕ). Fits (w .0)) (eqb (length l) recordSize && inRange (headOf l))
+      (λ t. head-room (headOf l) datagram (drop headSize l) (and-right (eqb (length l) recordSize) (inRange (headOf l)) t))
       (λ t z. absurd (omega arith))
 
   pub poll-room : (a : ℕ) (datagram t : List ℕ) → Fits (atOctets a (Poll (record { 0 = cookie }) interleaved room) datagram t .0)
   unfolding eventOn
   poll-room a datagram t =
-      by-test (λ (w : Reply × List ℕ). Fits (w .0)) (eqb (length t) tableOctets && ltb a 16) (λ u. record-room datagram (part a t)) (λ u z. absurd (omega arith))
+      by-test (λ (w : Reply × List ℕ). Fits (w .0)) (eqb (length t) tableSize && ltb a 16) (λ u. record-room datagram (part a t)) (λ u z. absurd (omega arith))

@@ -7,7 +7,7 @@ use lib.Dec.{eqb}
 use lib.ListN.{replicate}
 use borrow.Author.Tests.{ne-eqb, eq-eqb}
 use Rattle.state.specs.Rules.{plainReply}
-use Rattle.state.specs.Plain.{opened, fresh, reported, refuseAt, placeDo, Outstanding, Place, received, replyOf}
+use Rattle.state.specs.Plain.{opened, newlyOpened, reported, refuseAt, placeDo, Outstanding, Place, received, replyOf}
 use Rattle.state.specs.Numbers.{noRequest, noneSaved, placeIn, requestIn, openedIn}
 use Rattle.state.specs.Change.{change, Leaves}
 use Rattle.state.specs.declared.event.Event.the-variants.{Sent, Receive}
@@ -33,7 +33,7 @@ openedHead timescale c taken = record {
 }
 
 -- a fresh place has the numbers of one where no octet was taken
-pub opened-fresh : (h : Head) (timescale c : ℕ) → Leaves h (change (plainReply 0) (openedHead timescale c 0) Clear) (plainReply 0) (λ datagram f. opened (fresh timescale c))
+pub opened-fresh : (h : Head) (timescale c : ℕ) → Leaves h (change (plainReply 0) (openedHead timescale c 0) Clear) (plainReply 0) (λ datagram f. opened (newlyOpened timescale c))
 opened-fresh h timescale c = record { leaves = λ datagram f. ap (λ (k : ℕ). (plainReply 0, (openedHead timescale c k, replicate 512 0))) (sym (count-first 0)) }
 
 module _ (h : Head) (t1 : ℕ) (timed : t1 ≡ 0 → ⊥) (datagram f : List ℕ) where

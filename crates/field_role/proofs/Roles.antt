@@ -95,15 +95,15 @@ good-role offset n g =
 
 -- what a field has to be for its role
 abbrev pub Suits : Field → Role → Type 0
-Suits f (FilterRequest offset) = Good offset (f .length)
-Suits f Information = f .length ≡ 4
+Suits f (FilterRequest offset) = Good offset (f .size)
+Suits f Information = f .size ≡ 4
 Suits f DraftName = Unit {0}
 Suits f Unknown = Unit {0}
 
-suits-request : (f : Field) (offset : ℕ) → Suits f (requestRole offset (f .length))
-suits-request f offset = go (eqb (f .length % 4) 0) (leb 4 (f .length)) (leb (f .length) 512) (leb (offset + f .length) 512) refl refl refl
+suits-request : (f : Field) (offset : ℕ) → Suits f (requestRole offset (f .size))
+suits-request f offset = go (eqb (f .size % 4) 0) (leb 4 (f .size)) (leb (f .size) 512) (leb (offset + f .size) 512) refl refl refl
   where
-    go : (a b c d : Bool) → eqb (f .length % 4) 0 ≡ a → leb 4 (f .length) ≡ b → leb (offset + f .length) 512 ≡ d
+    go : (a b c d : Bool) → eqb (f .size % 4) 0 ≡ a → leb 4 (f .size) ≡ b → leb (offset + f .size) 512 ≡ d
         → Suits f (cond (a && b && c && d) (FilterRequest offset) Unknown)
     go true true true true p q r = record { four = eqb-true _ _ p; least = leb-true _ _ q; inside = leb-true _ _ r }
     go true true true false p q r = tt
@@ -112,10 +112,10 @@ suits-request f offset = go (eqb (f .length % 4) 0) (leb 4 (f .length)) (leb (f 
     go false b c d p q r = tt
 
 suits-first : (s : List ℕ) (f : Field) → Suits f (firstRole s f)
-suits-first s f = go (eqb (f .kind) 0xF503) (eqb (f .kind) 0xF505) (eqb (f .length) 4) (eqb (f .kind) 0xF5FF) refl
+suits-first s f = go (eqb (f .kind) 0xF503) (eqb (f .kind) 0xF505) (eqb (f .size) 4) (eqb (f .kind) 0xF5FF) refl
   where
-    go : (a b c d : Bool) → eqb (f .length) 4 ≡ c
-        → Suits f (cond a (requestRole (getAt s (f .start) 2) (f .length)) (cond b (cond c Information Unknown) (cond d DraftName Unknown)))
+    go : (a b c d : Bool) → eqb (f .size) 4 ≡ c
+        → Suits f (cond a (requestRole (getAt s (f .start) 2) (f .size)) (cond b (cond c Information Unknown) (cond d DraftName Unknown)))
     go true b c d e = suits-request f (getAt s (f .start) 2)
     go false true true d e = eqb-true _ _ e
     go false true false d e = tt
@@ -134,10 +134,10 @@ suits s before f = go (alreadyMet (f .kind) before)
 -- also the role that three flags tell
 pub suits-with : (s : List ℕ) (f : Field) (m : Met) → Suits f (roleWith s f m)
 unfolding roleWith
-suits-with s f m = go (eqb (f .kind) 0xF503) (eqb (f .kind) 0xF505) (eqb (f .length) 4) (eqb (f .kind) 0xF5FF) (m .request) (m .information) (m .name) refl
+suits-with s f m = go (eqb (f .kind) 0xF503) (eqb (f .kind) 0xF505) (eqb (f .size) 4) (eqb (f .kind) 0xF5FF) (m .request) (m .information) (m .name) refl
   where
-    go : (a b c d p q r : Bool) → eqb (f .length) 4 ≡ c
-        → Suits f (cond a (cond p Unknown (requestRole (getAt s (f .start) 2) (f .length))) (cond b (cond q Unknown (cond c Information Unknown)) (cond d (cond r Unknown DraftName) Unknown)))
+    go : (a b c d p q r : Bool) → eqb (f .size) 4 ≡ c
+        → Suits f (cond a (cond p Unknown (requestRole (getAt s (f .start) 2) (f .size))) (cond b (cond q Unknown (cond c Information Unknown)) (cond d (cond r Unknown DraftName) Unknown)))
     go true b c d true q r e = tt
     go true b c d false q r e = suits-request f (getAt s (f .start) 2)
     go false true c d p true r e = tt

@@ -20,8 +20,8 @@ requestRole offset n = cond (goodRequest offset n) (FilterRequest offset) Unknow
 -- (four data octets), a draft name of any length; any other type, and a known type that isn't good, is unknown
 abbrev pub firstRole : List ℕ → Field → Role
 firstRole s f =
-    cond (eqb (f .kind) 0xF503) (requestRole (getAt s (f .start) 2) (f .length))
-    (cond (eqb (f .kind) 0xF505) (cond (eqb (f .length) 4) Information Unknown)
+    cond (eqb (f .kind) 0xF503) (requestRole (getAt s (f .start) 2) (f .size))
+    (cond (eqb (f .kind) 0xF505) (cond (eqb (f .size) 4) Information Unknown)
     (cond (eqb (f .kind) 0xF5FF) DraftName
     Unknown))
 
@@ -48,8 +48,8 @@ metAfter m kind = record {
 
 unfoldable pub roleWith : List ℕ → Field → Met → Role
 roleWith s f m =
-    cond (eqb (f .kind) 0xF503) (cond (m .request) Unknown (requestRole (getAt s (f .start) 2) (f .length)))
-    (cond (eqb (f .kind) 0xF505) (cond (m .information) Unknown (cond (eqb (f .length) 4) Information Unknown))
+    cond (eqb (f .kind) 0xF503) (cond (m .request) Unknown (requestRole (getAt s (f .start) 2) (f .size)))
+    (cond (eqb (f .kind) 0xF505) (cond (m .information) Unknown (cond (eqb (f .size) 4) Information Unknown))
     (cond (eqb (f .kind) 0xF5FF) (cond (m .name) Unknown DraftName)
     Unknown))
 

@@ -57,13 +57,13 @@ pub fn role_of(datagram: &[u8], field: Field, met: Met) -> Role
         if met.request {
             return Role::Unknown;
         }
-        return request(number::get16(datagram, field.start), field.length);
+        return request(number::get16(datagram, field.start), field.size);
     }
     if kind == 0xF505 {
         if met.information {
             return Role::Unknown;
         }
-        if field.length == 4 {
+        if field.size == 4 {
             return Role::Information;
         }
         return Role::Unknown;

@@ -7,12 +7,12 @@ use header::ClientCookie;
 ghost use mathlib.Core.Path.{_≡_};
 ghost use mathlib.Core.List.{[]};
 ghost use Rattle.client_rules.specs.Call.{clearTable, openOne, closeOne, poll, sent, receive, loopVerdict, publish, plainAnswer};
-ghost use Rattle.client_rules.specs.Octets.{tableOctets, stepOctets};
+ghost use Rattle.client_rules.specs.Octets.{tableSize, stepOctets};
 ghost use Rattle.c_structs.specs.Numbers.{writtenNumbers, receivedNumbers, verdictNumbers};
 
 #[no_mangle]
 pub extern "C" fn ntp5_table_octets() -> usize
-    ensures { λ r. ⌜ r ≡ tableOctets ⌝ }
+    ensures { λ r. ⌜ r ≡ tableSize ⌝ }
 {
     client::table_octets()
 }

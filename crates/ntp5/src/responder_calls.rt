@@ -46,7 +46,7 @@ pub extern "C" fn ntp5_answer(
       request = now (request .entry);
       receive = «receive_time»;
       estimate = estimate;
-      fresh = «fresh_cookie»;
+      freshCookie = «fresh_cookie»;
       server = record {
         leap = leap;
         stratum = stratum;

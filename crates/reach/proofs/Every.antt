@@ -12,7 +12,7 @@ use lib.ListN.{replicate}
 use Rattle.chain.specs.Field.{firstOf}
 use Rattle.chain.specs.Content.{chainOctets, placed}
 use Rattle.state.specs.Range.{inRange}
-use Rattle.state.specs.Plain.{Opened, closed, opened, fresh, isLast, sentCookie, placeDo}
+use Rattle.state.specs.Plain.{Opened, closed, opened, newlyOpened, isLast, sentCookie, placeDo}
 use Rattle.state.specs.Numbers.{HeadFits, placeHead, savedIn, openedIn}
 use Rattle.state.specs.declared.head.Head.{Head}
 use Rattle.state.proofs.Ranges.{which, OpenRanges, open-ranges, asked-ranges}
@@ -55,16 +55,16 @@ module _ {a : ℕ} (inside : a < 16) (h : Head) (fits : HeadFits h) (r : OpenRan
       ⊎-elim (λ s. by false (sym s)) (λ s. by true (server-back (h .saved) (r .saved) ∙ sym s)) (which _ _ _ (q .server))
 
   -- nothing was saved, so that nothing was taken
-  unsaved : eqb (h .saved .t4) 0 ≡ true → From a (opened (fresh (h .timescale) (h .chunk))) h
+  unsaved : eqb (h .saved .t4) 0 ≡ true → From a (opened (newlyOpened (h .timescale) (h .chunk))) h
   unsaved e =
       let taken = eqb-true (h .taken) 0 (rw (e, or-false) at (r .taken-saved)) in
       let next : h .next ≡ 0 = ⊎-elim (λ k. omega arith) (λ k. omega arith) (r .taken) in
-      let same : fresh (h .timescale) (h .chunk) ≡ noneOutstanding h (h .next) (h .taken) (replicate 512 0) none (savedIn (h .saved)) = rw (next, taken, e) in
+      let same : newlyOpened (h .timescale) (h .chunk) ≡ noneOutstanding h (h .next) (h .taken) (replicate 512 0) none (savedIn (h .saved)) = rw (next, taken, e) in
       subst⁻¹ (λ (o : Opened). From a (opened o) h) same
       (by-outcome (eqb (h .outstanding) 0) (λ t. there _ (replicate 512 0) (rw (last-test, t, e))) (λ t. asking _ none t (last-polls (rw t) refl)))
 
   -- something was saved: rounds that each take a chunk, and one without, by the last cookie if no request is outstanding
-  saved : eqb (h .saved .t4) 0 ≡ false → From a (opened (fresh (h .timescale) (h .chunk))) h
+  saved : eqb (h .saved .t4) 0 ≡ false → From a (opened (newlyOpened (h .timescale) (h .chunk))) h
   unfolding chainOctets firstOf placed
   saved e = rounds inside h fits r timescale nonzero ends (replicate 512 0) none none refl
     where

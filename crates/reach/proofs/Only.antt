@@ -9,7 +9,7 @@ use Rattle.association.proofs.Encoding.{head-encode}
 use Rattle.association.proofs.Simulate.{place-in}
 use Rattle.order.specs.Order.{TaggedCall, after, EveryCall}
 use Rattle.client_rules.specs.Call.{Call, Typed}
-use Rattle.client_rules.specs.Octets.{tableOctets}
+use Rattle.client_rules.specs.Octets.{tableSize}
 use Rattle.client_rules.specs.Plain.{closedTable, stepPlain}
 use Rattle.client_rules.specs.Claim.{placeAfter}
 use Rattle.reach.specs.Reach.{headAfter, OnlyInRange}
@@ -17,7 +17,7 @@ use Rattle.client_rules.proofs.Tables.{part-all, good-at}
 use Rattle.client_rules.proofs.Demand3.{reached-plain, good-reached}
 
 -- the head of an association after calls is that of its place
-pub head-after : (t : List ℕ) → length t ≡ tableOctets → (cs : List (TaggedCall Call)) → EveryCall Typed cs → (a : ℕ) → a < 16
+pub head-after : (t : List ℕ) → length t ≡ tableSize → (cs : List (TaggedCall Call)) → EveryCall Typed cs → (a : ℕ) → a < 16
     → headAfter t cs a ≡ placeHead (placeAfter cs a)
 head-after t l cs ct a k =
     let g = good-reached cs ct in

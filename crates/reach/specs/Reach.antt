@@ -10,7 +10,7 @@ use Rattle.state.specs.declared.head.Head.{Head}
 use Rattle.association.specs.Record.{headOf}
 use Rattle.order.specs.Order.{TaggedCall, EveryCall}
 use Rattle.client_rules.specs.Call.{Call, Typed}
-use Rattle.client_rules.specs.Octets.{tableOctets, part}
+use Rattle.client_rules.specs.Octets.{tableSize, part}
 use Rattle.client_rules.specs.Claim.{reached}
 
 -- the head of an association after calls
@@ -19,13 +19,13 @@ headAfter t cs a = headOf (part a (reached t cs))
 
 -- calls lead only to heads in range
 abbrev pub OnlyInRange : Type 0
-OnlyInRange = (t : List ℕ) → length t ≡ tableOctets → (cs : List (TaggedCall Call)) → EveryCall Typed cs → (a : ℕ) → a < 16 → inRange (headAfter t cs a) ≡ true
+OnlyInRange = (t : List ℕ) → length t ≡ tableSize → (cs : List (TaggedCall Call)) → EveryCall Typed cs → (a : ℕ) → a < 16 → inRange (headAfter t cs a) ≡ true
 
 -- calls that lead association a of any table to this head
 pub record LeadsTo (a : ℕ) (h : Head) : Type 0 where
   pub calls : List (TaggedCall Call)
   pub typed : EveryCall Typed calls
-  pub leads : (t : List ℕ) → length t ≡ tableOctets → headAfter t calls a ≡ h
+  pub leads : (t : List ℕ) → length t ≡ tableSize → headAfter t calls a ≡ h
 
 -- and to every one whose numbers have 64 bits, as those of a record have
 abbrev pub EveryInRange : Type 0

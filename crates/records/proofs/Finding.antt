@@ -27,7 +27,7 @@ use Rattle.header.proofs.ServerCookie.Laws as Ck′
 use Rattle.records.specs.Records.{recordsIn}
 use Rattle.records.specs.declared.Record.{Record as Slot}
 use Rattle.records.proofs.Slots.{placeFrom}
-use Rattle.records.proofs.Walk.{at-list, vals, Sees, IsCookie, Asks, calls-told, slice-pre}
+use Rattle.records.proofs.Walk.{at-list, vals, Sees, IsCookie, Asks, calls-ensured, slice-pre}
 use Rattle.records.proofs.find as find
 use Rattle.records.proofs.find.Symbol.{name as #find}
 
@@ -48,5 +48,5 @@ module _ {M : Type 1} {𝓤 : URA M} {H : Heap 𝓤} {A : Atoms 𝓤} {K : Type 
   calls-find t fm mem run known κ p b o γ ys from ck gf gk os k =
       let y = Asked κ p b o γ ys from ck 𝓤 H A mem run in
       use2 W (raw (Finds 𝓤 H A mem run .pre y)) (slice-pre 𝓤 H A W κ p (Sees κ b o γ ys) (usize ∷ Ck.the-row ∷ []) (uint-makes 𝓤 H A W w64, (LL.makes Ck.the-type Ck′.the-plain 𝓤 H A, tt)) (y .0 .3 .1) (y .0 .4 .1) ((refl, gf), (gk, tt))) $
-      calls-told t fm find.ended (find.clauses 𝓤 H A mem run) known y (vint w64) (uint-tells w64) (λ r. r ≡ placeFrom (recordsIn ys) (ck .0) from) (λ r e. refl) os (λ r g e.
+      calls-ensured t fm find.ended (find.clauses 𝓤 H A mem run) known y (vint w64) (uint-tells w64) (λ r. r ≡ placeFrom (recordsIn ys) (ck .0) from) (λ r e. refl) os (λ r g e.
       use1 W (‵ (flft κ p) ⊛ ‵ ftrue) (id⊢ 𝓤 _) $ split t $ move t (1 ∷ []) $ drop t $ k r (g .1) e)

@@ -38,20 +38,20 @@ abbrev pub Leaves : {M : Type 1} (𝓤 : URA M) (H : Heap 𝓤) (A : Atoms 𝓤)
 Leaves 𝓤 H A mem run = Asks 𝓤 H A leave.ended (leave.clauses 𝓤 H A mem run)
 
 -- what the call binds
-abbrev pub Told : (b o : ℕ) (ys : List Slot) (at : ℕ) (α : ℕ) (γ : GName) {M : Type 1} (𝓤 : URA M) (H : Heap 𝓤) (A : Atoms 𝓤) (mem : Memory → SProp 𝓤) (run : Routine → Fun 𝓤) → Leaves 𝓤 H A mem run .Ghost
-Told b o ys at α γ 𝓤 H A mem run = ((((α ∷ []), tt), (fullShare, tt), tt, (at-list b o γ ys, (at, tt)), (vals b o ys, (vint w64 at ∷ [], tt))), tt)
+abbrev pub LeaveGhost : (b o : ℕ) (ys : List Slot) (at : ℕ) (α : ℕ) (γ : GName) {M : Type 1} (𝓤 : URA M) (H : Heap 𝓤) (A : Atoms 𝓤) (mem : Memory → SProp 𝓤) (run : Routine → Fun 𝓤) → Leaves 𝓤 H A mem run .Ghost
+LeaveGhost b o ys at α γ 𝓤 H A mem run = ((((α ∷ []), tt), (fullShare, tt), tt, (at-list b o γ ys, (at, tt)), (vals b o ys, (vint w64 at ∷ [], tt))), tt)
 
 module _ {M : Type 1} {𝓤 : URA M} {H : Heap 𝓤} {A : Atoms 𝓤} {K : Type 0} {W : Given 𝓤 H A} {Γ : List (Item 𝓤)} {E : Env 𝓤 H} {C : Calls 𝓤 H} {Λ : Loops 𝓤 H} {q : Post 𝓤 H} {xs : List Operand} {d : Place} {rest : Body} where
   pub calls-leave : K → FmC 𝓤 H (W .laws) C → (mem : Memory → SProp 𝓤) (run : Routine → Fun 𝓤) → Triple 𝓤 (C #leave) (Leaves 𝓤 H A mem run)
       → (κ : Lft) (p : Share) (b o : ℕ) (γ : GName) (ys : List Slot) (at : ℕ) → Room T.the-row (length ys) → at < 2 ^ 64
-      → ((α : ℕ) (γ₁ : GName) → Opds K W (raw (Leaves 𝓤 H A mem run .pre (Told b o ys at α γ₁ 𝓤 H A mem run)) ∷ ‵ (KeepsOn κ p b o γ ys α γ₁) ∷ Γ) E xs (sliceVal (b, o) (length ys) ∷ vint w64 at ∷ []))
+      → ((α : ℕ) (γ₁ : GName) → Opds K W (raw (Leaves 𝓤 H A mem run .pre (LeaveGhost b o ys at α γ₁ 𝓤 H A mem run)) ∷ ‵ (KeepsOn κ p b o γ ys α γ₁) ∷ Γ) E xs (sliceVal (b, o) (length ys) ∷ vint w64 at ∷ []))
       → ((zs : List Slot) → length zs ≡ length ys → recordsIn zs ≡ leaveRecords (recordsIn ys) at
       → Seq K W (Has 𝓤 κ p b o γ zs Γ) (lands C Λ E d vunit rest q))
       → Seq K W (Has 𝓤 κ p b o γ ys Γ) (runs C Λ E (seq (call #leave xs d) rest) q)
   calls-leave t fm mem run known κ p b o γ ys at room g os k =
       lends-out t tt ys b o room (λ α γ₁.
-      use2 W (raw (Leaves 𝓤 H A mem run .pre (Told b o ys at α γ₁ 𝓤 H A mem run))) (slice-pre 𝓤 H A W (α ∷ []) fullShare (MutSlice (named 0) (α ∷ []) T.the-row .own (at-list b o γ₁ ys) (vals b o ys)) (usize ∷ []) (uint-makes 𝓤 H A W w64, tt) (at, tt) (vint w64 at ∷ [], tt) ((refl, g), tt)) $
-      calls-at t fm (Leaves 𝓤 H A mem run) known (Told b o ys at α γ₁ 𝓤 H A mem run) (os α γ₁) (λ v.
+      use2 W (raw (Leaves 𝓤 H A mem run .pre (LeaveGhost b o ys at α γ₁ 𝓤 H A mem run))) (slice-pre 𝓤 H A W (α ∷ []) fullShare (MutSlice (named 0) (α ∷ []) T.the-row .own (at-list b o γ₁ ys) (vals b o ys)) (usize ∷ []) (uint-makes 𝓤 H A W w64, tt) (at, tt) (vint w64 at ∷ [], tt) ((refl, g), tt)) $
+      calls-at t fm (Leaves 𝓤 H A mem run) known (LeaveGhost b o ys at α γ₁ 𝓤 H A mem run) (os α γ₁) (λ v.
       use1 W (later (some (λ (r : Unit {0}). ((‵ (flft (α ∷ []) fullShare) ⊛ ‵ ftrue) ⊛ ‵ (unit .own r (v ∷ []))) ⊛ raw (ensured 𝓤 H A leave.ended (leave.clauses 𝓤 H A mem run) ((α ∷ []), tt) (at-list b o γ₁ ys, (at, tt)) tt r)))) (id⊢ 𝓤 _) $ await t tt $ pick t (λ r.
       -- what `leave` ensures, at some last list
       split t $ move t (1 ∷ []) $ use1 W (some (λ (zs : List Slot × (Unit {0} × Unit {0})). ‵ (lasts leave.ended ((α ∷ []), tt) (at-list b o γ₁ ys, (at, tt)) zs) ⊛ raw (fact 𝓤 (recordsIn (zs .0) ≡ leaveRecords (recordsIn ys) at)))) (id⊢ 𝓤 _) $ pick t (λ zs.

@@ -183,30 +183,30 @@ abbrev Result : (S : Ended) → Lfts (S .signature .lifetimes) → RattleType
 Result S κs = typeAt (S .signature .result) κs
 
 -- where an `ensures` is a fact of the result, what is ensured is that fact
-told : {M : Type 1} (𝓤 : URA M) (H : Heap 𝓤) (A : Atoms 𝓤) (S : Ended) (c : Clauses 𝓤 S) (κs : Lfts (S .signature .lifetimes)) (a : Args (S .signature) κs) (g : c κs a .ghost) (r : Result S κs .Denot) (φ : Type 0)
+result-fact : {M : Type 1} (𝓤 : URA M) (H : Heap 𝓤) (A : Atoms 𝓤) (S : Ended) (c : Clauses 𝓤 S) (κs : Lfts (S .signature .lifetimes)) (a : Args (S .signature) κs) (g : c κs a .ghost) (r : Result S κs .Denot) (φ : Type 0)
     → ((e : AtExit S κs) → c κs a .ensures g r e ≡ fact 𝓤 φ) → ent 𝓤 (ensured 𝓤 H A S c κs a g r) (fact 𝓤 φ)
-told 𝓤 H A S c κs a g r φ says = exE 𝓤 _ (λ ws. via 𝓤 (c κs a .ensures g r (atExit S κs a ws)) (snd∗ 𝓤 (sem 𝓤 H A (lasts S κs a ws)) _)
+result-fact 𝓤 H A S c κs a g r φ says = exE 𝓤 _ (λ ws. via 𝓤 (c κs a .ensures g r (atExit S κs a ws)) (snd∗ 𝓤 (sem 𝓤 H A (lasts S κs a ws)) _)
     (subst (λ (P : SProp 𝓤). ent 𝓤 (c κs a .ensures g r (atExit S κs a ws)) P) (says (atExit S κs a ws)) (id⊢ 𝓤 _)))
 
 module _ {M : Type 1} {𝓤 : URA M} {H : Heap 𝓤} {A : Atoms 𝓤} {K : Type 0} {W : Given 𝓤 H A} {Γ : List (Item 𝓤)} {E : Env 𝓤 H} {C : Calls 𝓤 H} {Λ : Loops 𝓤 H} {q : Post 𝓤 H} {f : Name} {xs : List Operand} {d : Place} {rest : Body} (t : K) (fm : FmC 𝓤 H (W .laws) C)
     (S : Ended) (c : Clauses 𝓤 S) (known : Triple 𝓤 (C f) (Asks 𝓤 H A S c)) (y : Asks 𝓤 H A S c .Ghost) (val : Result S (y .0 .0) .Denot → Val) (tl : Tells (Result S (y .0 .0)) (Is (Result S (y .0 .0))) (λ r. val r ∷ []))
     (φ : Result S (y .0 .0) .Denot → Type 0) (says : (r : Result S (y .0 .0) .Denot) (e : AtExit S (y .0 .0)) → c (y .0 .0) (y .0 .3) .ensures (y .1) r e ≡ fact 𝓤 (φ r)) where
   -- a call whose contract states a fact φ of the result: what it asks stands at the head, and the tokens come back
-  pub calls-told : Opds K W (raw (Asks 𝓤 H A S c .pre y) ∷ Γ) E xs (Asks 𝓤 H A S c .args y)
+  pub calls-ensured : Opds K W (raw (Asks 𝓤 H A S c .pre y) ∷ Γ) E xs (Asks 𝓤 H A S c .args y)
       → ((r : Result S (y .0 .0) .Denot) → Is (Result S (y .0 .0)) r (val r ∷ []) → φ r → Seq K W (raw (alive 𝓤 H A (S .signature) (y .0 .0) (y .0 .1)) ∷ Γ) (lands C Λ E d (val r) rest q))
       → Seq K W (raw (Asks 𝓤 H A S c .pre y) ∷ Γ) (runs C Λ E (seq (call f xs d) rest) q)
-  calls-told os k =
+  calls-ensured os k =
       let R = Result S (y .0 .0) in
       calls-at t fm (Asks 𝓤 H A S c) known y os (λ v.
       use1 W (later (some (λ (r : R .Denot). (raw (alive 𝓤 H A (S .signature) (y .0 .0) (y .0 .1)) ⊛ ‵ (R .own r (v ∷ []))) ⊛ raw (ensured 𝓤 H A S c (y .0 .0) (y .0 .3) (y .1) r)))) (id⊢ 𝓤 _) $ await t tt $ pick t (λ r.
-      split t $ move t (1 ∷ []) $ use1 W (raw (fact 𝓤 (φ r))) (told 𝓤 H A S c (y .0 .0) (y .0 .3) (y .1) r (φ r) (says r)) $ heard t (φ r) (λ e. split t $ move t (1 ∷ []) $
+      split t $ move t (1 ∷ []) $ use1 W (raw (fact 𝓤 (φ r))) (result-fact 𝓤 H A S c (y .0 .0) (y .0 .3) (y .1) r (φ r) (says r)) $ heard t (φ r) (λ e. split t $ move t (1 ∷ []) $
       peeks t R (Is R) (shows 𝓤 H A R) r (v ∷ []) (λ p. drop t $
       regoal t (λ (u : Val). lands C Λ E d u rest q) (ap only (tl r (v ∷ []) p)) refl $ k r (subst (Is R r) (tl r (v ∷ []) p) p) e))))
 
   -- the same of a function on plain values, which asks nothing
   pub calls-plain : ent 𝓤 (emp 𝓤) (Asks 𝓤 H A S c .pre y) → Opds K W (raw (Asks 𝓤 H A S c .pre y) ∷ Γ) E xs (Asks 𝓤 H A S c .args y)
       → ((r : Result S (y .0 .0) .Denot) → Is (Result S (y .0 .0)) r (val r ∷ []) → φ r → Seq K W Γ (lands C Λ E d (val r) rest q)) → Seq K W Γ (runs C Λ E (seq (call f xs d) rest) q)
-  calls-plain asks os k = use0 W (raw (Asks 𝓤 H A S c .pre y)) asks $ calls-told os (λ r p e. drop t $ k r p e)
+  calls-plain asks os k = use0 W (raw (Asks 𝓤 H A S c .pre y)) asks $ calls-ensured os (λ r p e. drop t $ k r p e)
 
 -- what such a function asks is had for nothing
 pub plain-pre : {M : Type 1} (𝓤 : URA M) (H : Heap 𝓤) (A : Atoms 𝓤) (Rs : List RattleType) → Makess 𝓤 H A Rs (Ises Rs) → (a : Denots Rs) (vss : Valss Rs) → Are Rs (Ises Rs) a vss

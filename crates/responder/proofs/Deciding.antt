@@ -10,7 +10,7 @@ use borrow.Author.Tests.{eq-eqb, ne-eqb, lt-ltb, le-ltb}
 use lib.Dec.{eqb, ltb}
 use lib.ListN.{length, take, drop}
 use lib.Seq.{length-take-le}
-use Rattle.header.specs.Header.{octetsOf}
+use Rattle.header.specs.Header.{headerOctets}
 use Rattle.header.specs.declared.Header.{Header}
 use Rattle.chain.specs.Chain.{soundRefusal}
 use Rattle.chain.specs.Content.{chainOctets}
@@ -31,12 +31,12 @@ module _ (g : Given) (store out : List ℕ) where
 
   -- the definition by these
   by-first : answerRefusal g store out
-      ≡ cond (eqb first 0) (cond (wrongFresh (asking g) (g .fresh) (rowOf store)) 8 (cond (ltb (length out) (length (g .request))) 11 0)) first
+      ≡ cond (eqb first 0) (cond (wrongFresh (asking g) (g .freshCookie) (rowOf store)) 8 (cond (ltb (length out) (length (g .request))) 11 0)) first
   unfolding answerRefusal
   by-first = go wrong (eqb (soundRefusal (g .request) 3) 0) refl
     where
       rest : ℕ
-      rest = cond (wrongFresh (asking g) (g .fresh) (rowOf store)) 8 (cond (ltb (length out) (length (g .request))) 11 0)
+      rest = cond (wrongFresh (asking g) (g .freshCookie) (rowOf store)) 8 (cond (ltb (length out) (length (g .request))) 11 0)
 
       go : (b c : Bool) → eqb (soundRefusal (g .request) 3) 0 ≡ c
           → cond b 6 (cond (not c) (soundRefusal (g .request) 3) rest) ≡ cond (eqb (cond b 6 (soundRefusal (g .request) 3)) 0) rest (cond b 6 (soundRefusal (g .request) 3))
@@ -52,7 +52,7 @@ module _ (g : Given) (store out : List ℕ) where
   refused-first {n} e z = refused n z (by-first ∙ rw (← e, ne-eqb n 0 z))
 
   module _ (z : first ≡ 0) where
-    later : answerRefusal g store out ≡ cond (wrongFresh (asking g) (g .fresh) (rowOf store)) 8 (cond (ltb (length out) (length (g .request))) 11 0)
+    later : answerRefusal g store out ≡ cond (wrongFresh (asking g) (g .freshCookie) (rowOf store)) 8 (cond (ltb (length out) (length (g .request))) 11 0)
     later = by-first ∙ rw (eq-eqb _ 0 z)
 
     pub right-store : wrongStore store ≡ false
@@ -61,10 +61,10 @@ module _ (g : Given) (store out : List ℕ) where
     pub sound-request : soundRefusal (g .request) 3 ≡ 0
     sound-request = not-given wrong 5 _ z .1
 
-    pub refused-fresh : wrongFresh (asking g) (g .fresh) (rowOf store) ≡ true → outcome (Refused 8) out store ≡ answerOf g store out
+    pub refused-fresh : wrongFresh (asking g) (g .freshCookie) (rowOf store) ≡ true → outcome (Refused 8) out store ≡ answerOf g store out
     refused-fresh e = refused 8 (λ q. absurd (omega arith)) (later ∙ rw e)
 
-    module _ (e : wrongFresh (asking g) (g .fresh) (rowOf store) ≡ false) where
+    module _ (e : wrongFresh (asking g) (g .freshCookie) (rowOf store) ≡ false) where
       pub refused-room : length out < length (g .request) → outcome (Refused 11) out store ≡ answerOf g store out
       refused-room h = refused 11 (λ q. absurd (omega arith)) (later ∙ rw (e, lt-ltb _ _ h))
 
@@ -76,7 +76,7 @@ module _ (g : Given) (store out : List ℕ) where
         given-accepted = answer-accepted g store out none
 
         pub answered : {o s : List ℕ} → o ≡ answerOctets g (rowOf store) ++ drop (length (g .request)) out
-            → s ≡ storeOctets (sizeOf store) (rowAfter (asking g) (g .fresh) (sizeOf store) (rowOf store))
+            → s ≡ storeOctets (sizeOf store) (rowAfter (asking g) (g .freshCookie) (sizeOf store) (rowOf store))
             → outcome (Written (length (g .request))) o s ≡ answerOf g store out
         answered p q = rw (p, q) (sym (answer-written g store out none))
 
@@ -90,10 +90,10 @@ lent-back out l n = rw (sub-zero n)
 
 -- an answer's octets, by the header and the time that the code computed
 module _ (g : Given) (row : List Record) {asked h : Header} {time : ℕ} (a : asked ≡ asking g) (t : time ≡ savedTime asked row)
-    (e : h ≡ answerHeader (g .server) asked (g .receive) (g .estimate) (g .fresh) time) where
+    (e : h ≡ answerHeader (g .server) asked (g .receive) (g .estimate) (g .freshCookie) time) where
   pub header-sent : h ≡ sentHeader g row
   header-sent = e ∙ rw (t, a)
 
-  pub octets-sent : {l : List ℕ} → l ≡ octetsOf h ++ chainOctets (sentFields g) → l ≡ answerOctets g row
+  pub octets-sent : {l : List ℕ} → l ≡ headerOctets h ++ chainOctets (sentFields g) → l ≡ answerOctets g row
   unfolding answerOctets
-  octets-sent q = q ∙ ap (λ (k : Header). octetsOf k ++ chainOctets (sentFields g)) header-sent
+  octets-sent q = q ∙ ap (λ (k : Header). headerOctets k ++ chainOctets (sentFields g)) header-sent

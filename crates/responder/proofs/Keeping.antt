@@ -59,9 +59,9 @@ module _ (s : List ℕ) (o : Octets s) (right : wrongStore s ≡ false) where
             let most = stored .within in
             store-written (sizeOf s) (without c (rowOf s)) (sound-without c (rowOf s) (stored .sound)) (omega (arith, length-without c (rowOf s))) (stored .low) (stored .high)
 
-  module _ (asked : Header) (fresh time : ℕ) (e : time ≡ savedTime asked (rowOf s)) where
+  module _ (asked : Header) (freshCookie time : ℕ) (e : time ≡ savedTime asked (rowOf s)) where
     -- a basic request leaves the store
-    pub keep-none : wantsInterleaved asked ≡ false → s ≡ storeOctets (sizeOf s) (rowAfter asked fresh (sizeOf s) (rowOf s))
+    pub keep-none : wantsInterleaved asked ≡ false → s ≡ storeOctets (sizeOf s) (rowAfter asked freshCookie (sizeOf s) (rowOf s))
     keep-none b = rw b (stored .content)
 
     -- the time asked for, where the request wants an interleaved answer
@@ -71,6 +71,6 @@ module _ (s : List ℕ) (o : Octets s) (right : wrongStore s ≡ false) where
     -- else the fresh cookie joins what is left
     pub keep-done : wantsInterleaved asked ≡ true → {t u : List ℕ}
         → t ≡ storeOctets (sizeOf s) (cond (eqb time 0) (rowOf s) (without (asked .«server_cookie» .0) (rowOf s)))
-        → u ≡ joinedOctets t fresh → u ≡ storeOctets (sizeOf s) (rowAfter asked fresh (sizeOf s) (rowOf s))
+        → u ≡ joinedOctets t freshCookie → u ≡ storeOctets (sizeOf s) (rowAfter asked freshCookie (sizeOf s) (rowOf s))
     keep-done b p q =
-        q ∙ rw (p, place-joined (left-stored (asked .«server_cookie» .0) time (time-wanted b)) fresh) (rw (← e, b))
+        q ∙ rw (p, place-joined (left-stored (asked .«server_cookie» .0) time (time-wanted b)) freshCookie) (rw (← e, b))

@@ -7,7 +7,7 @@ use native.Mathlib.Omega.{arith}
 use borrow.Author.Tests.{eq-eqb, le-ltb}
 use lib.ListN.{length, drop, length-append, length-drop}
 use lib.Seq.{take-at}
-use Rattle.header.specs.Header.{octetsOf, written}
+use Rattle.header.specs.Header.{headerOctets, written}
 use Rattle.header.specs.declared.Header.{Header}
 use Rattle.header.proofs.Refusals.{accepted, in-room}
 use Rattle.header.proofs.RoundTrip.{length-octetsOf}
@@ -23,12 +23,12 @@ request-size s e = let a = accepted s 3 (header-passes s 3 e) in (a .low, a .hig
 
 module _ (h : Header) (s filter information out : List ℕ) (e : soundRefusal s 3 ≡ 0) (same : length out ≡ length s) where
   -- the header is written
-  pub header-put : h .leap ≤ 3 → h .mode ≡ 4 → {n : ℕ} {l : List ℕ} → (n, l) ≡ written h out → l ≡ octetsOf h ++ drop 48 out
+  pub header-put : h .leap ≤ 3 → h .mode ≡ 4 → {n : ℕ} {l : List ℕ} → (n, l) ≡ written h out → l ≡ headerOctets h ++ drop 48 out
   header-put leap mode w =
       let size = request-size s e in
       ap (λ (p : ℕ × List ℕ). p .1) (w ∙ in-room h out (omega arith) (omega arith) (omega arith) (omega arith))
 
-  module _ (octets : length filter ≡ 512) (four : length information ≡ 4) {l : List ℕ} (w : l ≡ octetsOf h ++ drop 48 out) where
+  module _ (octets : length filter ≡ 512) (four : length information ≡ 4) {l : List ℕ} (w : l ≡ headerOctets h ++ drop 48 out) where
     sizes-right : wrongSizes s filter information l ≡ false
     sizes-right =
         let size = request-size s e in
@@ -36,6 +36,6 @@ module _ (h : Header) (s filter information out : List ℕ) (e : soundRefusal s 
         rw (eq-eqb _ _ octets, eq-eqb _ _ four, le-ltb _ _ (size .0), le-ltb _ _ (size .1), eq-eqb _ _ (size .2), eq-eqb _ _ long)
 
     -- and the fields after it
-    pub answer-put : {n : List ℕ} → n ≡ fieldsWritten s filter information l → n ≡ octetsOf h ++ chainOctets (answerFields s filter information)
+    pub answer-put : {n : List ℕ} → n ≡ fieldsWritten s filter information l → n ≡ headerOctets h ++ chainOctets (answerFields s filter information)
     unfolding fieldsWritten
-    answer-put q = q ∙ rw (sizes-right, w, take-at (octetsOf h) (drop 48 out) 48 (length-octetsOf h))
+    answer-put q = q ∙ rw (sizes-right, w, take-at (headerOctets h) (drop 48 out) 48 (length-octetsOf h))

@@ -11,7 +11,7 @@ ghost use mathlib.Core.Bool.{cond, _||_};
 ghost use mathlib.Core.List.{_++_};
 ghost use Prim.Native.Nat.{_≤_};
 ghost use lib.ListN.{length};
-ghost use Rattle.header.specs.Header.{octetsOf};
+ghost use Rattle.header.specs.Header.{headerOctets};
 ghost use Rattle.chain.specs.Chain.{soundRefusal};
 ghost use Rattle.chain.specs.Content.{chainOctets};
 ghost use Rattle.store_rules.specs.Row.{wrongStore};
@@ -48,20 +48,20 @@ fn check(
 fn write(header: Header, request: &[u8], filter: &[u8], information: &[u8], out: &mut [u8])
     requires { ⌜ (soundRefusal (now request) 3 ≡ 0) × (length (now filter) ≡ 512) × (length (now information) ≡ 4)
         × (length (now out) ≡ length (now request)) × (header .leap ≤ 3) × (header .mode ≡ 4) ⌝ }
-    ensures { λ _. ⌜ now (out .exit) ≡ octetsOf header ++ chainOctets (answerFields (now (request .entry)) (now (filter .entry)) (now (information .entry))) ⌝ }
+    ensures { λ _. ⌜ now (out .exit) ≡ headerOctets header ++ chainOctets (answerFields (now (request .entry)) (now (filter .entry)) (now (information .entry))) ⌝ }
 {
     header::write(header, out);
     answer_fields::write(request, filter, information, out);
 }
 
-// Answers a request: the answer goes to the start of `out` and is as long as the request. `fresh` is looked at only where the request wants an
+// Answers a request: the answer goes to the start of `out` and is as long as the request. `fresh_cookie` is looked at only where the request wants an
 // interleaved answer.
 pub fn answer(
     store: &mut [u8],
     request: &[u8],
     receive: u64,
     estimate: u64,
-    fresh: ServerCookie,
+    fresh_cookie: ServerCookie,
     server: Server,
     filter: &[u8],
     information: &[u8],
@@ -71,7 +71,7 @@ pub fn answer(
       request = now (request .entry);
       receive = receive;
       estimate = estimate;
-      fresh = fresh .0;
+      freshCookie = «fresh_cookie» .0;
       server = server;
       filter = now (filter .entry);
       information = now (information .entry);
@@ -92,7 +92,7 @@ pub fn answer(
     let Reading::Fields(asked) = header::read(request, 3) else {
         return Answered::Refused(number);
     };
-    if saved::wrong_fresh(store, asked, fresh) {
+    if saved::wrong_fresh(store, asked, fresh_cookie) {
         return Answered::Refused(8);
     }
     let n = request.len();
@@ -100,8 +100,8 @@ pub fn answer(
         return Answered::Refused(11);
     }
     let time = saved::time(store, asked);
-    let header = answer_header::header_of(server, asked, receive, estimate, fresh, time);
+    let header = answer_header::header_of(server, asked, receive, estimate, fresh_cookie, time);
     write(header, request, filter, information, &mut out[0..n]);
-    saved::keep(store, asked, fresh, time);
+    saved::keep(store, asked, fresh_cookie, time);
     Answered::Written(n as u16)
 }

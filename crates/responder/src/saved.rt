@@ -10,13 +10,13 @@ ghost use Rattle.store_rules.specs.Row.{timeOf, without, sizeOf, rowOf, wrongSt
 ghost use Rattle.responder_rules.specs.Answer.{savedTime, wrongFresh, rowAfter};
 
 // Refusal 8: a fresh cookie is needed, and it is 0 or in the store.
-pub(crate) fn wrong_fresh(store: &[u8], asked: Header, fresh: ServerCookie) -> bool
+pub(crate) fn wrong_fresh(store: &[u8], asked: Header, fresh_cookie: ServerCookie) -> bool
     requires { ⌜ wrongStore (now store) ≡ false ⌝ }
-    ensures { λ r. ⌜ r ≡ wrongFresh asked (fresh .0) (rowOf (now (store .entry))) ⌝ }
+    ensures { λ r. ⌜ r ≡ wrongFresh asked («fresh_cookie» .0) (rowOf (now (store .entry))) ⌝ }
 {
     if wants_interleaved(asked) {
-        let at = store_row::find(store, fresh);
-        return (fresh.0 == 0) | (at < store.len());
+        let at = store_row::find(store, fresh_cookie);
+        return (fresh_cookie.0 == 0) | (at < store.len());
     }
     false
 }
@@ -47,13 +47,13 @@ fn leave(store: &mut [u8], cookie: ServerCookie, time: u64)
 }
 
 // What an answer leaves: the record whose time was sent goes, and then the fresh cookie joins.
-pub(crate) fn keep(store: &mut [u8], asked: Header, fresh: ServerCookie, time: u64)
+pub(crate) fn keep(store: &mut [u8], asked: Header, fresh_cookie: ServerCookie, time: u64)
     requires { ⌜ (wrongStore (now store) ≡ false) × (time ≡ savedTime asked (rowOf (now store))) ⌝ }
     ensures { λ _. ⌜ now (store .exit) ≡ storeOctets (sizeOf (now (store .entry)))
-        (rowAfter asked (fresh .0) (sizeOf (now (store .entry))) (rowOf (now (store .entry)))) ⌝ }
+        (rowAfter asked («fresh_cookie» .0) (sizeOf (now (store .entry))) (rowOf (now (store .entry)))) ⌝ }
 {
     if wants_interleaved(asked) {
         leave(store, asked.server_cookie, time);
-        store_row::join(store, fresh);
+        store_row::join(store, fresh_cookie);
     }
 }

@@ -43,13 +43,13 @@ answer-accepted g store out e =
     }
 
 -- nor has it a fresh cookie that is needed and wrong
-pub answer-fresh : (g : Given) (store out : List ℕ) → answerRefusal g store out ≡ 0 → wrongFresh (asking g) (g .fresh) (rowOf store) ≡ false
+pub answer-fresh : (g : Given) (store out : List ℕ) → answerRefusal g store out ≡ 0 → wrongFresh (asking g) (g .freshCookie) (rowOf store) ≡ false
 unfolding answerRefusal
 answer-fresh g store out e =
     let wrong = wrongArguments (g .filter) (g .information) (g .server .leap) (g .receive) (g .estimate) in
     let first = not-given (wrongStore store || wrong) 5 _ e in
     let second = request-passes (soundRefusal (g .request) 3) _ (first .1) in
-    not-given (wrongFresh (asking g) (g .fresh) (rowOf store)) 7 _ (second .1) .0
+    not-given (wrongFresh (asking g) (g .freshCookie) (rowOf store)) 7 _ (second .1) .0
 
 -- and its store is not wrong
 pub answer-stored : (g : Given) (store out : List ℕ) → answerRefusal g store out ≡ 0 → wrongStore store ≡ false
@@ -61,16 +61,16 @@ answer-stored g store out e =
 -- what an answer returns where its refusal is 0
 pub answer-written : (g : Given) (store out : List ℕ) → answerRefusal g store out ≡ 0 → answerOf g store out ≡ record {
   refusal = 0;
-  length = length (g .request);
+  size = length (g .request);
   out = answerOctets g (rowOf store) ++ drop (length (g .request)) out;
-  store = storeOctets (sizeOf store) (rowAfter (asking g) (g .fresh) (sizeOf store) (rowOf store));
+  store = storeOctets (sizeOf store) (rowAfter (asking g) (g .freshCookie) (sizeOf store) (rowOf store));
 }
 unfolding answerOf
 answer-written g store out e = rw (eq-eqb _ _ e)
 
 -- and where it is not: the number, and nothing changed
 pub answer-refused : (g : Given) (store out : List ℕ) → (answerRefusal g store out ≡ 0 → ⊥)
-    → answerOf g store out ≡ record { refusal = answerRefusal g store out; length = 0; out = out; store = store }
+    → answerOf g store out ≡ record { refusal = answerRefusal g store out; size = 0; out = out; store = store }
 unfolding answerOf
 answer-refused g store out h = rw (ne-eqb _ 0 h)
 

@@ -7,7 +7,7 @@ use native.Mathlib.Omega.{arith}
 use lib.Dec.{eqb, lit<}
 use lib.ListN.{length, take, drop, length-append}
 use lib.Seq.{drop-at}
-use Rattle.header.specs.Header.{headerOf, octetsOf}
+use Rattle.header.specs.Header.{headerOf, headerOctets}
 use Rattle.header.specs.declared.Header.{Header}
 use Rattle.header.proofs.Refusals.{accepted, refusal-none, Accepted as Passed}
 use Rattle.header.proofs.RoundTrip.{length-octetsOf, read-written, version-written, mode-written, read-in-range, InRange as HeaderRange}
@@ -59,14 +59,14 @@ module _ (g : Given) (a : Accepted g) where
   answer-size row =
       let p = passed in
       let h = sentHeader g row in
-      omega (arith, length-append (octetsOf h) (chainOctets (sentFields g)), length-octetsOf h, fields-size)
+      omega (arith, length-append (headerOctets h) (chainOctets (sentFields g)), length-octetsOf h, fields-size)
 
   -- a filter response is as long as what was asked
   responses : (before : List Field) (f : Field) (offset : ℕ) → roleOf (g .request) before f ≡ FilterRequest offset
-      → length (take (f .length) (drop offset (g .filter))) ≡ f .length
+      → length (take (f .size) (drop offset (g .filter))) ≡ f .size
   responses before f offset e =
       let good = subst (Suits f) e (suits (g .request) before f) in
-      response-length (g .filter) offset (f .length) (a .filter) (good .inside)
+      response-length (g .filter) offset (f .size) (a .filter) (good .inside)
 
   module _ (row : List Record) where
     abbrev sent : Header
@@ -76,7 +76,7 @@ module _ (g : Given) (a : Accepted g) where
     chain-passes : chainRefusal (drop 48 (answerOctets g row)) ≡ 0
     unfolding answerOctets
     chain-passes =
-        rw (drop-at (octetsOf sent) (chainOctets (sentFields g)) 48 (length-octetsOf sent)) (chain-written (sentFields g) fields-fit)
+        rw (drop-at (headerOctets sent) (chainOctets (sentFields g)) 48 (length-octetsOf sent)) (chain-written (sentFields g) fields-fit)
 
     -- an answer is sound where a response is wanted
     pub answer-sound : soundRefusal (answerOctets g row) 4 ≡ 0
@@ -98,12 +98,12 @@ module _ (g : Given) (a : Accepted g) where
     -- its fields are those that the page lists and no others
     pub answer-fields : fieldsOf (answerOctets g row) ≡ placed 48 (sentFields g)
     unfolding answerOctets
-    answer-fields = fields-written (octetsOf sent) (sentFields g) 48 (length-octetsOf sent) fields-fit
+    answer-fields = fields-written (headerOctets sent) (sentFields g) 48 (length-octetsOf sent) fields-fit
 
     -- and so are their data
     pub answer-contents : contentsOf (answerOctets g row) (fieldsOf (answerOctets g row)) ≡ sentFields g
     unfolding answerOctets
-    answer-contents = contents-written (octetsOf sent) (sentFields g) 48 (length-octetsOf sent) fields-fit
+    answer-contents = contents-written (headerOctets sent) (sentFields g) 48 (length-octetsOf sent) fields-fit
 
 -- the numbers of an answer's header are in range
 
@@ -134,7 +134,7 @@ module _ (g : Given) (row : List Record) (a : Accepted g) (r : InRange g row) wh
         flags = flags-range (eqb (savedTime (asking g) row) 0) (g .server .flags) (r .flags);
         delay = r .delay;
         dispersion = r .dispersion;
-        server = either (wantsInterleaved (asking g)) (g .fresh) 0 (2 ^ 64) (r .fresh) (lit< tt);
+        server = either (wantsInterleaved (asking g)) (g .freshCookie) 0 (2 ^ 64) (r .freshCookie) (lit< tt);
         client = read-in-range (g .request) (r .request) .client;
         receive = r .receive;
         transmit = either (eqb (savedTime (asking g) row) 0) (g .estimate) (savedTime (asking g) row) (2 ^ 64) (r .estimate) saved-range;
@@ -150,7 +150,7 @@ module _ (g : Given) (row : List Record) (a : Accepted g) (r : InRange g row) wh
   unfolding answerOctets
   answer-header-more t =
       let h = sentHeader g row in
-      ap headerOf (append-assoc (octetsOf h) (chainOctets (sentFields g)) t) ∙ read-written h (chainOctets (sentFields g) ++ t) header-range
+      ap headerOf (append-assoc (headerOctets h) (chainOctets (sentFields g)) t) ∙ read-written h (chainOctets (sentFields g) ++ t) header-range
 
   pub answer-claim : AnswerClaim g row
   answer-claim = record {

@@ -30,7 +30,7 @@ range-row g row sound r = record {
   request = r .request;
   receive = r .receive;
   estimate = r .estimate;
-  fresh = r .fresh;
+  freshCookie = r .freshCookie;
   stratum = r .stratum;
   poll = r .poll;
   precision = r .precision;
@@ -72,16 +72,16 @@ module _ (basic : Bool) (c : ℕ) (row : List Record) (g : SoundRow row) where
       go false = without-absent c d row h
 
 -- a fresh cookie that is needed and not wrong
-right-fresh : (wants : Bool) (fresh : ℕ) (row : List Record) → wants && (eqb fresh 0 || held fresh row) ≡ false → wants ≡ true
-    → (fresh ≡ 0 → ⊥) × (held fresh row ≡ false)
-right-fresh wants fresh row h w = let p = or-none (eqb fresh 0) (held fresh row) (rw w at h) in (eqb-false fresh 0 (p .0), p .1)
+right-fresh : (wants : Bool) (freshCookie : ℕ) (row : List Record) → wants && (eqb freshCookie 0 || held freshCookie row) ≡ false → wants ≡ true
+    → (freshCookie ≡ 0 → ⊥) × (held freshCookie row ≡ false)
+right-fresh wants freshCookie row h w = let p = or-none (eqb freshCookie 0) (held freshCookie row) (rw w at h) in (eqb-false freshCookie 0 (p .0), p .1)
 
 -- a saved time stands in the row, and the request wants it
 pub record Saved (g : Given) (row : List Record) : Type 0 where
   pub wanted : wantsInterleaved (asking g) ≡ true
   pub its-time : savedTime (asking g) row ≡ timeOf (askedCookie g) row
   pub some : timeOf (askedCookie g) row ≡ 0 → ⊥
-  pub row-after : (n : ℕ) → rowAfter (asking g) (g .fresh) n row ≡ joined n (g .fresh) (without (askedCookie g) row)
+  pub row-after : (n : ℕ) → rowAfter (asking g) (g .freshCookie) n row ≡ joined n (g .freshCookie) (without (askedCookie g) row)
 
 -- there is one where the saved time isn't 0
 pub is-saved : (g : Given) (row : List Record) → eqb (savedTime (asking g) row) 0 ≡ false → Saved g row
@@ -105,33 +105,33 @@ module _ {s : List ℕ} {n : ℕ} {row : List Record} (w : Stores s n row) (g : 
   left = rowLeft (eqb (savedTime (asking g) row) 0) (asking g .«server_cookie» .0) row
 
   abbrev next : List Record
-  next = rowAfter (asking g) (g .fresh) n row
+  next = rowAfter (asking g) (g .freshCookie) n row
 
   -- an answer that is not refused
   pub answer-done : answerRefusal g s out ≡ 0 → answerOf g s out
-      ≡ record { refusal = 0; length = length (g .request); out = answerOctets g row ++ drop (length (g .request)) out; store = storeOctets n next }
+      ≡ record { refusal = 0; size = length (g .request); out = answerOctets g row ++ drop (length (g .request)) out; store = storeOctets n next }
   answer-done e = answer-written g s out e ∙ rw (stores-row w, stores-size w)
 
   -- the fresh cookie is not wrong
-  fresh-right : answerRefusal g s out ≡ 0 → wrongFresh (asking g) (g .fresh) row ≡ false
-  fresh-right e = ap (wrongFresh (asking g) (g .fresh)) (sym (stores-row w)) ∙ answer-fresh g s out e
+  fresh-right : answerRefusal g s out ≡ 0 → wrongFresh (asking g) (g .freshCookie) row ≡ false
+  fresh-right e = ap (wrongFresh (asking g) (g .freshCookie)) (sym (stores-row w)) ∙ answer-fresh g s out e
 
   -- where one is needed, it is not 0 and not in the row
-  pub fresh-new : answerRefusal g s out ≡ 0 → wantsInterleaved (asking g) ≡ true → (g .fresh ≡ 0 → ⊥) × (held (g .fresh) row ≡ false)
-  fresh-new e = right-fresh (wantsInterleaved (asking g)) (g .fresh) row (fresh-right e)
+  pub fresh-new : answerRefusal g s out ≡ 0 → wantsInterleaved (asking g) ≡ true → (g .freshCookie ≡ 0 → ⊥) × (held (g .freshCookie) row ≡ false)
+  fresh-new e = right-fresh (wantsInterleaved (asking g)) (g .freshCookie) row (fresh-right e)
 
   -- the row after it is sound and within its size
-  pub answer-stores : g .fresh < 2 ^ 64 → answerRefusal g s out ≡ 0 → Stores (storeOctets n next) n next
+  pub answer-stores : g .freshCookie < 2 ^ 64 → answerRefusal g s out ≡ 0 → Stores (storeOctets n next) n next
   answer-stores small e = go (wantsInterleaved (asking g)) (fresh-new e)
     where
-      go : (b : Bool) → (b ≡ true → (g .fresh ≡ 0 → ⊥) × (held (g .fresh) row ≡ false))
-          → Stores (storeOctets n (cond b (joined n (g .fresh) left) row)) n (cond b (joined n (g .fresh) left) row)
+      go : (b : Bool) → (b ≡ true → (g .freshCookie ≡ 0 → ⊥) × (held (g .freshCookie) row ≡ false))
+          → Stores (storeOctets n (cond b (joined n (g .freshCookie) left) row)) n (cond b (joined n (g .freshCookie) left) row)
       go true new =
           let basic = eqb (savedTime (asking g) row) 0 in
           let c = asking g .«server_cookie» .0 in
-          let absent = absent-left basic c row (w .sound) (g .fresh) (new refl .1) in
-          let sound = sound-joined n (g .fresh) left (new refl .0) small absent (sound-left basic c row (w .sound)) in
+          let absent = absent-left basic c row (w .sound) (g .freshCookie) (new refl .1) in
+          let sound = sound-joined n (g .freshCookie) left (new refl .0) small absent (sound-left basic c row (w .sound)) in
           let l = length-left basic c row (w .sound) in
           let k = w .within in
-          store-written n (joined n (g .fresh) left) sound (length-joined n (g .fresh) left (w .low) (omega arith)) (w .low) (w .high)
+          store-written n (joined n (g .freshCookie) left) sound (length-joined n (g .freshCookie) left (w .low) (omega arith)) (w .low) (w .high)
       go false new = store-written n row (w .sound) (w .within) (w .low) (w .high)

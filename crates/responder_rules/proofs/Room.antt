@@ -39,19 +39,19 @@ name-length n = rw length-take (omega arith)
 
 module _ (request filter information : List ℕ) (octets : length filter ≡ 512) (four : length information ≡ 4) where
   -- what answers a field that suits its role takes no more than the field
-  pub answer-size : (f : Field) (r : Role) → Suits f r → length (chainOctets (answerTo filter information f r)) ≤ 4 + padded (f .length)
+  pub answer-size : (f : Field) (r : Role) → Suits f r → length (chainOctets (answerTo filter information f r)) ≤ 4 + padded (f .size)
   answer-size f (FilterRequest offset) h =
       let inside = h .inside in
-      omega (arith, length-chain-one (content 0xF504 (take (f .length) (drop offset filter))), response-length filter offset (f .length) octets inside)
+      omega (arith, length-chain-one (content 0xF504 (take (f .size) (drop offset filter))), response-length filter offset (f .size) octets inside)
   answer-size f Information h = omega (arith, length-chain-one (content 0xF505 information))
-  answer-size f DraftName h = omega (arith, length-chain-one (content 0xF5FF (take (f .length) draftName)), name-length (f .length))
+  answer-size f DraftName h = omega (arith, length-chain-one (content 0xF5FF (take (f .size) draftName)), name-length (f .size))
   answer-size f Unknown h = omega (arith, empty-chain)
 
-  pub answer-fits : (s : List ℕ) (before : List Field) (f : Field) → length (chainOctets (answerTo filter information f (roleOf s before f))) ≤ 4 + padded (f .length)
+  pub answer-fits : (s : List ℕ) (before : List Field) (f : Field) → length (chainOctets (answerTo filter information f (roleOf s before f))) ≤ 4 + padded (f .size)
   answer-fits s before f = answer-size f (roleOf s before f) (suits s before f)
 
   -- a field and those after it
-  more : (before : List Field) (f : Field) (fs : List Field) (at n size : ℕ) → n ≡ at + 4 + padded (f .length)
+  more : (before : List Field) (f : Field) (fs : List Field) (at n size : ℕ) → n ≡ at + 4 + padded (f .size)
       → length (chainOctets (answersTo request filter information (before ++ (f ∷ [])) fs)) + n ≤ size → length (chainOctets (answersTo request filter information before (f ∷ fs))) + at ≤ size
   unfolding answersTo
   more before f fs at n size e h =
@@ -87,9 +87,9 @@ module _ (request filter information : List ℕ) (octets : length filter ≡ 512
   fit-role : (f : Field) (r : Role) → Suits f r → AllFit (answerTo filter information f r)
   fit-role f (FilterRequest offset) h =
       let inside = h .inside in
-      (record { kind = lit< tt; long = omega (arith, response-length filter offset (f .length) octets inside) }, tt)
+      (record { kind = lit< tt; long = omega (arith, response-length filter offset (f .size) octets inside) }, tt)
   fit-role f Information h = (record { kind = lit< tt; long = omega arith }, tt)
-  fit-role f DraftName h = (record { kind = lit< tt; long = omega (arith, name-long (f .length)) }, tt)
+  fit-role f DraftName h = (record { kind = lit< tt; long = omega (arith, name-long (f .size)) }, tt)
   fit-role f Unknown h = tt
 
   -- each answer fits in the 16 bits of its length

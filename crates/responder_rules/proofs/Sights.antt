@@ -27,15 +27,15 @@ flag-put true flags = ne-eqb ((flags - flags / 2 % 2 * 2 + 0) / 2 % 2) 1 (λ e. 
 flag-put false flags = eq-eqb ((flags - flags / 2 % 2 * 2 + 2) / 2 % 2) 1 (omega arith)
 
 -- the cookie whose record leaves is not in the row that a fresh one has joined
-gone-joined : (n fresh c : ℕ) (row : List Record) → SoundRow row → held c row ≡ true → held fresh row ≡ false → held c (joined n fresh (without c row)) ≡ false
-gone-joined n fresh c row g h k = go (held c (joined n fresh (without c row))) refl
+gone-joined : (n freshCookie c : ℕ) (row : List Record) → SoundRow row → held c row ≡ true → held freshCookie row ≡ false → held c (joined n freshCookie (without c row)) ≡ false
+gone-joined n freshCookie c row g h k = go (held c (joined n freshCookie (without c row))) refl
   where
-    either : (held c (without c row) ≡ true) ⊎ (c ≡ fresh) → ⊥
+    either : (held c (without c row) ≡ true) ⊎ (c ≡ freshCookie) → ⊥
     either (inl e) = true≢false (sym e ∙ without-gone c row g)
     either (inr e) = true≢false (sym h ∙ ap (λ (d : ℕ). held d row) e ∙ k)
 
-    go : (b : Bool) → held c (joined n fresh (without c row)) ≡ b → b ≡ false
-    go true e = absurd (either (held-joined n fresh (without c row) c e))
+    go : (b : Bool) → held c (joined n freshCookie (without c row)) ≡ b → b ≡ false
+    go true e = absurd (either (held-joined n freshCookie (without c row) c e))
     go false e = refl
 
 module _ {s : List ℕ} {n : ℕ} {row : List Record} (w : Stores s n row) (g : Given) (r : InRange g []) (out : List ℕ) where
@@ -77,5 +77,5 @@ module _ {s : List ℕ} {n : ℕ} {row : List Record} (w : Stores s n row) (g : 
   sight-gone h =
       let p = sight-saved h in
       let c = askedCookie g in
-      let left = ap (λ (o : Outcome). rowOf (o .store)) (answer-done w g out (p .0)) ∙ stores-row (answer-stores w g out (r .fresh) (p .0)) ∙ p .1 .row-after n in
-      ap (held c) left ∙ gone-joined n (g .fresh) c row (w .sound) (time-held c row (p .1 .some)) (fresh-new w g out (p .0) (p .1 .wanted) .1)
+      let left = ap (λ (o : Outcome). rowOf (o .store)) (answer-done w g out (p .0)) ∙ stores-row (answer-stores w g out (r .freshCookie) (p .0)) ∙ p .1 .row-after n in
+      ap (held c) left ∙ gone-joined n (g .freshCookie) c row (w .sound) (time-held c row (p .1 .some)) (fresh-new w g out (p .0) (p .1 .wanted) .1)

@@ -75,18 +75,18 @@ module _ {s : List ℕ} {n : ℕ} {owed row : List Record} (w : Stores s n row) 
 
     module _ (e : answerRefusal g s out ≡ 0) where
       abbrev after : List Record
-      after = rowAfter (asking g) (g .fresh) n row
+      after = rowAfter (asking g) (g .freshCookie) n row
 
       -- the store of the row after it
       stores-after : Stores (answerOf g s out .store) n after
-      stores-after = rw (answer-done w g out e) (answer-stores w g out (r .fresh) e)
+      stores-after = rw (answer-done w g out e) (answer-stores w g out (r .freshCookie) e)
 
       -- a basic answer: no record leaves but the oldest
       owes-basic : eqb (savedTime (asking g) row) 0 ≡ true → Owes owed after
       owes-basic q = rw q (go (wantsInterleaved (asking g)) (fresh-new w g out e))
         where
-          go : (b : Bool) → (b ≡ true → (g .fresh ≡ 0 → ⊥) × (held (g .fresh) row ≡ false)) → Owes owed (cond b (joined n (g .fresh) row) row)
-          go true new = owes-joined n (g .fresh) (w .sound) (new refl .1) o
+          go : (b : Bool) → (b ≡ true → (g .freshCookie ≡ 0 → ⊥) × (held (g .freshCookie) row ≡ false)) → Owes owed (cond b (joined n (g .freshCookie) row) row)
+          go true new = owes-joined n (g .freshCookie) (w .sound) (new refl .1) o
           go false new = o
 
       -- nothing is sent that was owed
@@ -107,12 +107,12 @@ module _ {s : List ℕ} {n : ℕ} {owed row : List Record} (w : Stores s n row) 
           let c = askedCookie g in
           let k = is-saved g row q in
           let due = o .owes c (k .some) in
-          let fresh = fresh-new w g out e (k .wanted) .1 in
+          let freshCookie = fresh-new w g out e (k .wanted) .1 in
           record {
             row = after;
             left = without c owed;
             stores = stores-after;
-            owes = rw (k .row-after n) (owes-joined n (g .fresh) (sound-without c row (w .sound)) (without-absent c (g .fresh) row fresh) (owes-without c (w .sound) o));
+            owes = rw (k .row-after n) (owes-joined n (g .freshCookie) (sound-without c row (w .sound)) (without-absent c (g .freshCookie) row freshCookie) (owes-without c (w .sound) o));
             counts = λ es. rw (done-sight w g r out e, q, header-done w g r out e, q, k .its-time, time-held c owed (λ z. k .some (sym due ∙ z)), eq-eqb (timeOf c owed) (timeOf c row) due);
           }
 

@@ -4,7 +4,7 @@ use mathlib.Core.List.{List, [], _∷_, _++_}
 use Prim.Native.Nat.{ℕ, _+_, _-_, _*_, _/_, _%_}
 use lib.Dec.{eqb, ltb}
 use lib.ListN.{length, take, drop, replicate}
-use Rattle.header.specs.Header.{headerOf, octetsOf, interleavedFlag}
+use Rattle.header.specs.Header.{headerOf, headerOctets, interleavedFlag}
 use Rattle.header.specs.declared.Header.{Header}
 use Rattle.chain.specs.Chain.{soundRefusal}
 use Rattle.chain.specs.Field.{fieldsOf}
@@ -23,7 +23,7 @@ pub record Given : Type 0 where
   pub request : List ℕ
   pub receive : ℕ
   pub estimate : ℕ
-  pub fresh : ℕ
+  pub freshCookie : ℕ
   pub server : Server
   pub filter : List ℕ
   pub information : List ℕ
@@ -41,8 +41,8 @@ abbrev pub savedTime : Header → List Record → ℕ
 savedTime asked row = cond (wantsInterleaved asked) (timeOf (asked .«server_cookie» .0) row) 0
 
 -- an interleaved answer sends the saved time, a basic one (saved time 0) the estimate; flag 0x2 is set in the first only
-abbrev pub answerHeader : Server → (asked : Header) (receive estimate fresh saved : ℕ) → Header
-answerHeader server asked receive estimate fresh saved = record {
+abbrev pub answerHeader : Server → (asked : Header) (receive estimate freshCookie saved : ℕ) → Header
+answerHeader server asked receive estimate freshCookie saved = record {
   leap = server .leap;
   mode = 4;
   stratum = server .stratum;
@@ -53,7 +53,7 @@ answerHeader server asked receive estimate fresh saved = record {
   flags = server .flags - server .flags / 2 % 2 * 2 + cond (eqb saved 0) 0 2;
   «root_delay» = server .«root_delay»;
   «root_dispersion» = server .«root_dispersion»;
-  «server_cookie» = record { 0 = cond (wantsInterleaved asked) fresh 0 };
+  «server_cookie» = record { 0 = cond (wantsInterleaved asked) freshCookie 0 };
   «client_cookie» = asked .«client_cookie»;
   receive = receive;
   transmit = cond (eqb saved 0) estimate saved;
@@ -61,9 +61,9 @@ answerHeader server asked receive estimate fresh saved = record {
 
 -- what answers a field: a filter response of equal length, server information, our first min(27, k) name octets
 abbrev pub answerTo : (filter information : List ℕ) → Field → Role → List Content
-answerTo filter information f (FilterRequest offset) = content 0xF504 (take (f .length) (drop offset filter)) ∷ []
+answerTo filter information f (FilterRequest offset) = content 0xF504 (take (f .size) (drop offset filter)) ∷ []
 answerTo filter information f Information = content 0xF505 information ∷ []
-answerTo filter information f DraftName = content 0xF5FF (take (f .length) draftName) ∷ []
+answerTo filter information f DraftName = content 0xF5FF (take (f .size) draftName) ∷ []
 answerTo filter information f Unknown = []
 
 -- the answers to fields of the request, in its order, where some stand before
@@ -83,19 +83,19 @@ answerFields request filter information =
 
 -- the header and the fields of an answer
 abbrev pub sentHeader : Given → List Record → Header
-sentHeader g row = answerHeader (g .server) (asking g) (g .receive) (g .estimate) (g .fresh) (savedTime (asking g) row)
+sentHeader g row = answerHeader (g .server) (asking g) (g .receive) (g .estimate) (g .freshCookie) (savedTime (asking g) row)
 
 abbrev pub sentFields : Given → List Content
 sentFields g = answerFields (g .request) (g .filter) (g .information)
 
 unfoldable pub answerOctets : Given → List Record → List ℕ
-answerOctets g row = octetsOf (sentHeader g row) ++ chainOctets (sentFields g)
+answerOctets g row = headerOctets (sentHeader g row) ++ chainOctets (sentFields g)
 
 -- the row after an answer: the record whose time is sent leaves; then the fresh cookie joins the end
-abbrev pub rowAfter : (asked : Header) (fresh n : ℕ) → List Record → List Record
-rowAfter asked fresh n row =
+abbrev pub rowAfter : (asked : Header) (freshCookie n : ℕ) → List Record → List Record
+rowAfter asked freshCookie n row =
     cond (wantsInterleaved asked)
-    (joined n fresh (cond (eqb (savedTime asked row) 0) row (without (asked .«server_cookie» .0) row)))
+    (joined n freshCookie (cond (eqb (savedTime asked row) 0) row (without (asked .«server_cookie» .0) row)))
     row
 
 -- the filter or the server information of wrong size, leap above 3, receive or estimated time 0
@@ -104,37 +104,37 @@ wrongArguments filter information leap receive estimate =
     not (eqb (length filter) 512) || not (eqb (length information) 4) || ltb 3 leap || eqb receive 0 || eqb estimate 0
 
 -- 8: a fresh cookie is needed, and it is 0 or in the store at entry
-abbrev pub wrongFresh : (asked : Header) (fresh : ℕ) → List Record → Bool
-wrongFresh asked fresh row = wantsInterleaved asked && (eqb fresh 0 || held fresh row)
+abbrev pub wrongFresh : (asked : Header) (freshCookie : ℕ) → List Record → Bool
+wrongFresh asked freshCookie row = wantsInterleaved asked && (eqb freshCookie 0 || held freshCookie row)
 
 -- the refusals in the page's order
 unfoldable pub answerRefusal : Given → (store out : List ℕ) → ℕ
 answerRefusal g store out =
     cond (wrongStore store || wrongArguments (g .filter) (g .information) (g .server .leap) (g .receive) (g .estimate)) 6
     (cond (not (eqb (soundRefusal (g .request) 3) 0)) (soundRefusal (g .request) 3)
-    (cond (wrongFresh (asking g) (g .fresh) (rowOf store)) 8
+    (cond (wrongFresh (asking g) (g .freshCookie) (rowOf store)) 8
     (cond (ltb (length out) (length (g .request))) 11
     0)))
 
 -- all that an answer returns and leaves
 pub record Outcome : Type 0 where
   pub refusal : ℕ
-  pub length : ℕ
+  pub size : ℕ
   pub out : List ℕ
   pub store : List ℕ
 
 -- the page's number and value for each case of the call's answer
 abbrev pub outcome : Answered → (out store : List ℕ) → Outcome
-outcome (Written n) out store = record { refusal = 0; length = n; out = out; store = store }
-outcome (Refused n) out store = record { refusal = n; length = 0; out = out; store = store }
+outcome (Written n) out store = record { refusal = 0; size = n; out = out; store = store }
+outcome (Refused n) out store = record { refusal = n; size = 0; out = out; store = store }
 
 unfoldable pub answerOf : Given → (store out : List ℕ) → Outcome
 answerOf g store out =
     cond (eqb (answerRefusal g store out) 0)
     (record {
       refusal = 0;
-      length = length (g .request);
+      size = length (g .request);
       out = answerOctets g (rowOf store) ++ drop (length (g .request)) out;
-      store = storeOctets (sizeOf store) (rowAfter (asking g) (g .fresh) (sizeOf store) (rowOf store));
+      store = storeOctets (sizeOf store) (rowAfter (asking g) (g .freshCookie) (sizeOf store) (rowOf store));
     })
-    (record { refusal = answerRefusal g store out; length = 0; out = out; store = store })
+    (record { refusal = answerRefusal g store out; size = 0; out = out; store = store })

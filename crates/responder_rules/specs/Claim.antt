@@ -28,7 +28,7 @@ pub record InRange (g : Given) (row : List Record) : Type 0 where
   pub request : Octets (g .request)
   pub receive : g .receive < 2 ^ 64
   pub estimate : g .estimate < 2 ^ 64
-  pub fresh : g .fresh < 2 ^ 64
+  pub freshCookie : g .freshCookie < 2 ^ 64
   pub stratum : g .server .stratum < 2 ^ 8
   pub poll : SFits w8 (g .server .poll)
   pub precision : SFits w8 (g .server .precision)
@@ -52,4 +52,4 @@ pub record AnswerClaim (g : Given) (row : List Record) : Type 0 where
   pub contents : contentsOf (answerOctets g row) (fieldsOf (answerOctets g row)) ≡ sentFields g
   -- a filter response is as long as the filter request that it answers
   pub responses : (before : List Field) (f : Field) (offset : ℕ) → roleOf (g .request) before f ≡ FilterRequest offset
-      → length (take (f .length) (drop offset (g .filter))) ≡ f .length
+      → length (take (f .size) (drop offset (g .filter))) ≡ f .size

@@ -30,8 +30,8 @@ AllTyped (c ∷ cs) = Typed c × AllTyped cs
 
 -- all that a call on a store returns and leaves
 abbrev pub step : Call → List ℕ → Outcome
-step clear s = record { refusal = cleared s .0; length = 0; out = []; store = cleared s .1 }
-step (report c t) s = record { refusal = reporting s c t .0; length = 0; out = []; store = reporting s c t .1 }
+step clear s = record { refusal = cleared s .0; size = 0; out = []; store = cleared s .1 }
+step (report c t) s = record { refusal = reporting s c t .0; size = 0; out = []; store = reporting s c t .1 }
 step (answer g out) s = answerOf g s out
 
 -- the store after calls

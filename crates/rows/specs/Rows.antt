@@ -6,7 +6,7 @@ use lib.Dec.{eqb, ltb}
 use lib.ListN.{length}
 use Rattle.octets.specs.Number.{getAt}
 use Rattle.words.specs.Numeral.{readOf}
-use Rattle.words.specs.OctetWord.{layOf}
+use Rattle.words.specs.OctetWord.{writeOf}
 use Rattle.text.specs.Place.{partOf, pieceOf, sameOf}
 use Rattle.rows.specs.declared.Found.{Found}
 
@@ -20,7 +20,7 @@ modeProblem word =
     cond (sameOf word (98 ∷ 97 ∷ 115 ∷ 105 ∷ 99 ∷ []) || sameOf word (105 ∷ 110 ∷ 116 ∷ 101 ∷ 114 ∷ 108 ∷ 101 ∷ 97 ∷ 118 ∷ 101 ∷ 100 ∷ [])) 0 10
 
 unfoldable pub octetsProblem : List ℕ → ℕ
-octetsProblem word = layOf word [] .0 .problem
+octetsProblem word = writeOf word [] .0 .problem
 
 -- what is wrong with a word for a letter: where there is none, or a minus sign, the word is left over, 3; a missing word is 2
 unfoldable pub problemOf : ℕ → List ℕ → ℕ

@@ -11,7 +11,7 @@ use text::part;
 use text::piece;
 use text::same;
 use words::number::read;
-use words::octet_word::lay;
+use words::octet_word::write;
 ghost use mathlib.Core.Path.{_≡_};
 ghost use Rattle.rows.specs.Rows.{modeProblem, octetsProblem, problemOf, rowOf, faultOf, foundOf, callOf};
 
@@ -50,8 +50,8 @@ fn mode_problem(word: &[u8]) -> u8
 fn octets_problem(word: &[u8]) -> u8
     ensures { λ r. ⌜ r ≡ octetsProblem (now (word .entry)) ⌝ }
 {
-    let laid = lay(word, &mut []);
-    laid.problem
+    let written = write(word, &mut []);
+    written.problem
 }
 
 // What is wrong with a word for this letter; where there is no letter, a word is left over.

@@ -11,8 +11,8 @@ use lib.ListN.{length, drop, length-append, length-drop}
 use Rattle.store_rules.specs.Row.{Record, held, timeOf, joined}
 use Rattle.store_rules.proofs.Rows.{or-none, SoundRow, sound-before, held-append, time-append, time-absent}
 
-abbrev fresh : ℕ → List Record
-fresh c = record { cookie = c; time = 0 } ∷ []
+abbrev freshRecord : ℕ → List Record
+freshRecord c = record { cookie = c; time = 0 } ∷ []
 
 -- what is kept: all, or all but the oldest
 abbrev kept : Bool → List Record → List Record
@@ -41,11 +41,11 @@ time-kept false d (r ∷ row) g h =
     sym (rw (ne-eqb (r .cookie) d n))
 
 -- a fresh record's cookie, and its time
-held-fresh : (c d : ℕ) → held d (fresh c) ≡ eqb c d
+held-fresh : (c d : ℕ) → held d (freshRecord c) ≡ eqb c d
 unfolding held
 held-fresh c d = or-false (eqb c d)
 
-time-fresh : (c d : ℕ) → timeOf d (fresh c) ≡ 0
+time-fresh : (c d : ℕ) → timeOf d (freshRecord c) ≡ 0
 unfolding timeOf
 time-fresh c d = go (eqb c d)
   where
@@ -54,22 +54,22 @@ time-fresh c d = go (eqb c d)
     go false = refl
 
 -- at the end of a row
-sound-end : (c : ℕ) (row : List Record) → (c ≡ 0 → ⊥) → c < 2 ^ 64 → held c row ≡ false → SoundRow row → SoundRow (row ++ fresh c)
+sound-end : (c : ℕ) (row : List Record) → (c ≡ 0 → ⊥) → c < 2 ^ 64 → held c row ≡ false → SoundRow row → SoundRow (row ++ freshRecord c)
 unfolding held
 sound-end c [] z l h g = (record { used = z; cookie = l; time = omega arith; once = refl }, tt)
 sound-end c (r ∷ row) z l h g =
     let p = or-none (eqb (r .cookie) c) (held c row) h in
     let n = ne-eqb c (r .cookie) (λ e. eqb-false (r .cookie) c (p .0) (sym e)) in
-    let o : held (r .cookie) (row ++ fresh c) ≡ false = held-append (r .cookie) row (fresh c) ∙ rw (g .0 .once, held-fresh c (r .cookie), n) in
+    let o : held (r .cookie) (row ++ freshRecord c) ≡ false = held-append (r .cookie) row (freshRecord c) ∙ rw (g .0 .once, held-fresh c (r .cookie), n) in
     (sound-before (g .0) o, sound-end c row z l (p .1) (g .1))
 
 -- the row stays within its size
 pub length-joined : (n c : ℕ) (row : List Record) → 1 ≤ n → length row ≤ n → length (joined n c row) ≤ n
 length-joined n c row h l = go (ltb (length row) n) refl
   where
-    go : (b : Bool) → ltb (length row) n ≡ b → length (kept b row ++ fresh c) ≤ n
-    go true q = let k = ltb-true (length row) n q in rw (length-append row (fresh c)) (omega arith)
-    go false q = rw (length-append (drop 1 row) (fresh c), length-drop 1 row) (omega arith)
+    go : (b : Bool) → ltb (length row) n ≡ b → length (kept b row ++ freshRecord c) ≤ n
+    go true q = let k = ltb-true (length row) n q in rw (length-append row (freshRecord c)) (omega arith)
+    go false q = rw (length-append (drop 1 row) (freshRecord c), length-drop 1 row) (omega arith)
 
 module _ (n c : ℕ) (row : List Record) where
   -- and sound
@@ -80,7 +80,7 @@ module _ (n c : ℕ) (row : List Record) where
 
   -- the cookies of the new row
   held-either : (d : ℕ) → held d (joined n c row) ≡ held d (kept (ltb (length row) n) row) || eqb c d
-  held-either d = held-append d (kept (ltb (length row) n) row) (fresh c) ∙ rw (held-fresh c d)
+  held-either d = held-append d (kept (ltb (length row) n) row) (freshRecord c) ∙ rw (held-fresh c d)
 
   -- a cookie of the new row was in the old one, or is the fresh one
   pub held-joined : (d : ℕ) → held d (joined n c row) ≡ true → (held d row ≡ true) ⊎ (d ≡ c)
@@ -99,11 +99,11 @@ module _ (n c : ℕ) (row : List Record) where
   pub time-joined-fresh : held c row ≡ false → timeOf c (joined n c row) ≡ 0
   time-joined-fresh h =
       let b = ltb (length row) n in
-      time-append c (kept b row) (fresh c) (time-fresh c c) ∙ time-absent c (kept b row) (held-kept b c row h)
+      time-append c (kept b row) (freshRecord c) (time-fresh c c) ∙ time-absent c (kept b row) (held-kept b c row h)
 
   -- any other of the new row keeps its own
   pub time-joined : (d : ℕ) → SoundRow row → (d ≡ c → ⊥) → held d (joined n c row) ≡ true → timeOf d (joined n c row) ≡ timeOf d row
   time-joined d g h k =
       let b = ltb (length row) n in
       let e : held d (kept b row) ≡ true = sym (held-either d ∙ rw (ne-eqb c d (λ p. h (sym p))) (or-false (held d (kept b row)))) ∙ k in
-      time-append d (kept b row) (fresh c) (time-fresh c d) ∙ time-kept b d row g e
+      time-append d (kept b row) (freshRecord c) (time-fresh c d) ∙ time-kept b d row g e

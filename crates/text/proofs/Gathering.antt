@@ -15,7 +15,7 @@ abbrev made : List ℕ → Line → List ℕ → ℕ → ℕ → ℕ → Line ×
 made s l b end stop n = (
   record {
     number = l .number;
-    length = n;
+    size = n;
     comment = l .comment || ltb stop end;
     ended = l .ended || ltb end (length s);
     count = l .count;
@@ -26,8 +26,8 @@ made s l b end stop n = (
 )
 
 pub gathered-as : (s : List ℕ) (l : Line) (b b′ p : List ℕ) (end stop n m : ℕ) → end ≡ placeOf s (l .at) 10 true → p ≡ partOf s 0 end
-    → stop ≡ placeOf p (l .at) 35 true → n ≡ takenOf s (l .at) stop (l .comment) → b′ ≡ copyAt b (l .length) s (l .at) n
-    → m ≡ (l .length + n) % 2 ^ 64 → made s l b′ end stop m ≡ gathered s l b
+    → stop ≡ placeOf p (l .at) 35 true → n ≡ takenOf s (l .at) stop (l .comment) → b′ ≡ copyAt b (l .size) s (l .at) n
+    → m ≡ (l .size + n) % 2 ^ 64 → made s l b′ end stop m ≡ gathered s l b
 unfolding gathered gatheredTo
 gathered-as s l b b′ p end stop n m e f g h i j =
     let k : stop ≡ placeOf (partOf s 0 end) (l .at) 35 true = g ∙ ap (λ (t : List ℕ). placeOf t (l .at) 35 true) f in

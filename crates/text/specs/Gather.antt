@@ -17,14 +17,14 @@ unfoldable pub gatheredTo : List ℕ → Line → List ℕ → ℕ → ℕ → L
 gatheredTo s l buffer end stop = (
   record {
     number = l .number;
-    length = (l .length + takenOf s (l .at) stop (l .comment)) % 2 ^ 64;
+    size = (l .size + takenOf s (l .at) stop (l .comment)) % 2 ^ 64;
     comment = l .comment || ltb stop end;
     ended = l .ended || ltb end (length s);
     count = l .count;
     at = end + 1;
     last = l .last;
   },
-  copyAt buffer (l .length) s (l .at) (takenOf s (l .at) stop (l .comment)),
+  copyAt buffer (l .size) s (l .at) (takenOf s (l .at) stop (l .comment)),
 )
 
 -- the line goes to the next line feed or the end, and its comment begins at the first # before that

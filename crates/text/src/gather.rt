@@ -9,7 +9,7 @@ ghost use Rattle.text.specs.Gather.{takenOf, gathered};
 // has ended. The line's length may go past its buffer: it is then too long.
 pub struct Line {
     pub number: u64,
-    pub length: usize,
+    pub size: usize,
     pub comment: bool,
     pub ended: bool,
     pub count: usize,
@@ -34,10 +34,10 @@ pub fn gather(text: &[u8], state: Line, line: &mut [u8]) -> Line
     let end = find(text, state.at, b'\n', true);
     let stop = find(part(text, 0, end), state.at, b'#', true);
     let n = taken(text, state.at, stop, state.comment);
-    octets::part::copy(line, state.length, text, state.at, n);
+    octets::part::copy(line, state.size, text, state.at, n);
     Line {
         number: state.number,
-        length: std::num::wrapping_add_usize(state.length, n),
+        size: std::num::wrapping_add_usize(state.size, n),
         comment: state.comment | (stop < end),
         ended: state.ended | (end < text.len()),
         count: state.count,

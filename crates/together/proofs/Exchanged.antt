@@ -33,7 +33,7 @@ use Rattle.store_rules.specs.Row.{rowOf}
 use Rattle.responder_rules.specs.Answer.{Given, answerRefusal, answerOctets, answerOf}
 use Rattle.responder_rules.proofs.Accepting.{answer-accepted, answer-written, answer-number, answer-given}
 use Rattle.responder_rules.proofs.Room.{response-length}
-use Rattle.together.specs.Together.{Polling, chunkOf, offsetOf, callsOf, Asks, Answers, sentBy, receiving, Exchanged, Together}
+use Rattle.together.specs.Together.{Polling, pollChunk, pollOffset, callsOf, Asks, Answers, sentBy, receiving, Exchanged, Together}
 use Rattle.together.proofs.Answered.{chunkAsked, polled-size}
 use Rattle.together.proofs.Served.{Serves, served, chunk-taken, chunk-octets}
 use Rattle.together.proofs.Waiting.{Waits}
@@ -150,16 +150,16 @@ module _ (k : Polling) (h : Asks k) (g : Given) (store out : List ℕ) (n : Answ
         ∙ getD-drop (q .offset) (g .filter) (i - q .offset) 0 ∙ ap (λ (j : ℕ). getD (g .filter) j 0) same
 
     -- the offset and the size that the poll wrote
-    offset-written : offsetOf k ≡ q .offset
+    offset-written : pollOffset k ≡ q .offset
     offset-written =
         let inside = w .ranges .good .inside in
         let least = w .ranges .good .least in
         rw (w .answer) (num-left poll (drop (pollLength (q .chunk)) (k .out)) offsetPlace 2 (omega (arith, poll-long)) ∙ poll-offset q (k .cookie) (k .exponent) (k .interleaved) (omega arith))
 
-    chunk-written : chunkOf k ≡ q .chunk
+    chunk-written : pollChunk k ≡ q .chunk
     chunk-written = rw (w .answer) (omega arith)
 
-    filter-taken : (i : ℕ) → offsetOf k ≤ i → i < offsetOf k + chunkOf k → getD (receiving k answer t4 .1) (filterPlace a i) 0 ≡ getD (g .filter) i 0
+    filter-taken : (i : ℕ) → pollOffset k ≤ i → i < pollOffset k + pollChunk k → getD (receiving k answer t4 .1) (filterPlace a i) 0 ≡ getD (g .filter) i 0
     filter-taken i l m =
         let inside = w .ranges .good .inside in
         let at = offset-written in

@@ -1,4 +1,4 @@
 -- The laws of words. Assumes nothing.
-pub mod Laying
+pub mod Writing
 pub mod Numerals
 pub mod OctetWords

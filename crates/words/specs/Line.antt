@@ -7,7 +7,7 @@ use lib.IntN.{ℤ}
 use mir.Syntax.{w8}
 use mir.Val.{toZ}
 use Rattle.words.specs.Numeral.{readOf}
-use Rattle.words.specs.OctetWord.{octetsOf}
+use Rattle.words.specs.OctetWord.{wordOctets}
 use Rattle.text.specs.Place.{pieceOf, placeOf}
 
 -- the number that a word is, of at most 64 bits
@@ -28,4 +28,4 @@ wordOf line row letter = pieceOf line (placeOf (pieceOf row 1 32) 0 letter true 
 
 -- the octets that a word is, at most 4,096
 unfoldable pub octetsAt : List ℕ → ℕ → List ℕ
-octetsAt line word = octetsOf (pieceOf line word 32) (replicate 4096 0)
+octetsAt line word = wordOctets (pieceOf line word 32) (replicate 4096 0)

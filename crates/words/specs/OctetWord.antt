@@ -43,26 +43,26 @@ pairOf s = digitOf (getAt s 0 1) % 16 * 16 + digitOf (getAt s 1 1) % 16
 unfoldable pub judged : Run → ℕ → ℕ
 judged r count = cond (eqb (r .problem) 0) (cond (leb (r .times) (4096 - count)) 0 8) (r .problem)
 
--- an octet laid n times from a place on, where there are the places
+-- an octet written n times from a place on, where there are the places
 unfoldable pub fillFrom : List ℕ → ℕ → ℕ → ℕ → List ℕ
 fillFrom b from zero octet = b
 fillFrom b from (suc n) octet = fillFrom (putAt b (from + n) 1 octet) from n octet
 
--- the runs of a text laid one after the other, up to the first that is wrong; how many octets they are; a run takes an octet
+-- the runs of a text written one after the other, up to the first that is wrong; how many octets they are; a run takes an octet
 -- of the text at least, so that as many turns as octets are enough
-unfoldable pub layFrom : ℕ → List ℕ → ℕ → List ℕ → Value × List ℕ
-layFrom zero b count s = (value count 0, b)
-layFrom (suc turns) b count s =
+unfoldable pub writeFrom : ℕ → List ℕ → ℕ → List ℕ → Value × List ℕ
+writeFrom zero b count s = (value count 0, b)
+writeFrom (suc turns) b count s =
     cond (ltb 0 (length s))
     (cond (eqb (judged (runOf s) count) 0)
-    (layFrom turns (fillFrom b count (runOf s .times) (pairOf s)) (count + runOf s .times) (drop (runOf s .end) s))
+    (writeFrom turns (fillFrom b count (runOf s .times) (pairOf s)) (count + runOf s .times) (drop (runOf s .end) s))
     (value count (judged (runOf s) count), b))
     (value count 0, b)
 
 -- a minus sign is no octets
-unfoldable pub layOf : List ℕ → List ℕ → Value × List ℕ
-layOf s b = cond (eqb (length s) 1 && eqb (getAt s 0 1) 45) (value 0 0, b) (layFrom (length s) b 0 s)
+unfoldable pub writeOf : List ℕ → List ℕ → Value × List ℕ
+writeOf s b = cond (eqb (length s) 1 && eqb (getAt s 0 1) 45) (value 0 0, b) (writeFrom (length s) b 0 s)
 
--- the octets that a word spells, laid in a buffer: as many of them as it has places for
-unfoldable pub octetsOf : List ℕ → List ℕ → List ℕ
-octetsOf s b = take (layOf s b .0 .value) (layOf s b .1)
+-- the octets that a word spells, written in a buffer: as many of them as it has places for
+unfoldable pub wordOctets : List ℕ → List ℕ → List ℕ
+wordOctets s b = take (writeOf s b .0 .value) (writeOf s b .1)

@@ -12,7 +12,7 @@ use text::rest;
 ghost use mathlib.Core.Path.{_≡_};
 ghost use Prim.Native.Nat.{_+_, _≤_};
 ghost use lib.ListN.{length};
-ghost use Rattle.words.specs.OctetWord.{separatedAt, countedRun, runOf, pairOf, judged, fillFrom, layFrom, layOf, octetsOf};
+ghost use Rattle.words.specs.OctetWord.{separatedAt, countedRun, runOf, pairOf, judged, fillFrom, writeFrom, writeOf, wordOctets};
 
 // What can be wrong with a word that is to be octets.
 pub const NOT_OCTETS: u8 = 6;
@@ -114,7 +114,7 @@ fn judge(run: Run, count: u64) -> u8
     0
 }
 
-// Lays an octet `times` times from `from` on, where the buffer has the places.
+// Writes an octet `times` times from `from` on, where the buffer has the places.
 fn fill(buffer: &mut [u8], from: u64, times: u64, octet: u8)
     requires { ⌜ from + times ≤ 4096 ⌝ }
     ensures { λ _. ⌜ now (buffer .exit) ≡ fillFrom (now (buffer .entry)) from times octet ⌝ }
@@ -128,8 +128,8 @@ fn fill(buffer: &mut [u8], from: u64, times: u64, octet: u8)
 
 // Each run takes an octet of the text at least, so that as many turns as octets are enough. The next run's place is
 // told by what is left, which needs no sum.
-fn lay_runs(word: &[u8], buffer: &mut [u8]) -> Value
-    ensures { λ r. ⌜ (r, now (buffer .exit)) ≡ layFrom (length (now (word .entry))) (now (buffer .entry)) 0 (now (word .entry)) ⌝ }
+fn write_runs(word: &[u8], buffer: &mut [u8]) -> Value
+    ensures { λ r. ⌜ (r, now (buffer .exit)) ≡ writeFrom (length (now (word .entry))) (now (buffer .entry)) 0 (now (word .entry)) ⌝ }
 {
     let mut at: usize = 0;
     let mut count: u64 = 0;
@@ -155,10 +155,10 @@ fn lay_runs(word: &[u8], buffer: &mut [u8]) -> Value
     }
 }
 
-// Lays the octets that a word spells from the buffer's start on, those before the first wrong run too, where the buffer has
+// Writes the octets that a word spells from the buffer's start on, those before the first wrong run too, where the buffer has
 // the places. The value is how many they are.
-pub fn lay(word: &[u8], buffer: &mut [u8]) -> Value
-    ensures { λ r. ⌜ (r, now (buffer .exit)) ≡ layOf (now (word .entry)) (now (buffer .entry)) ⌝ }
+pub fn write(word: &[u8], buffer: &mut [u8]) -> Value
+    ensures { λ r. ⌜ (r, now (buffer .exit)) ≡ writeOf (now (word .entry)) (now (buffer .entry)) ⌝ }
 {
     if (word.len() == 1) & (get8(word, 0) == b'-') {
         return Value {
@@ -166,16 +166,16 @@ pub fn lay(word: &[u8], buffer: &mut [u8]) -> Value
             problem: 0,
         };
     }
-    lay_runs(word, buffer)
+    write_runs(word, buffer)
 }
 
-// The octets that a word spells, laid from the buffer's start on, as many of them as it has places for. They come back as a
+// The octets that a word spells, written from the buffer's start on, as many of them as it has places for. They come back as a
 // part of the buffer, so that a caller has no end to prove; the rest of it is out of reach while the part is in use.
 pub fn octets_of<'a>(word: &[u8], buffer: &'a mut [u8]) -> &'a mut [u8]
-    ensures { λ r. ⌜ now r ≡ octetsOf (now (word .entry)) (now (buffer .entry)) ⌝ }
+    ensures { λ r. ⌜ now r ≡ wordOctets (now (word .entry)) (now (buffer .entry)) ⌝ }
 {
-    let laid = lay(word, buffer);
-    let n = laid.value as usize;
+    let written = write(word, buffer);
+    let n = written.value as usize;
     if n <= buffer.len() {
         return &mut buffer[0..n];
     }

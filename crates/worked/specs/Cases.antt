@@ -6,7 +6,7 @@ use lib.Dec.{eqb}
 use lib.IntN.{ℤ, pos, negsuc, negℤ}
 use lib.ListN.{getD, take, replicate}
 use Rattle.octets.specs.Number.{octets}
-use Rattle.header.specs.Header.{octetsOf}
+use Rattle.header.specs.Header.{headerOctets}
 use Rattle.header.specs.declared.Header.{Header}
 use Rattle.chain.specs.Chain.{soundRefusal}
 use Rattle.field_role.specs.Role.{goodRequest}
@@ -42,11 +42,11 @@ bare l m = record {
 
 -- octet 0 of a header with this leap and mode
 abbrev pub firstOctet : ℕ → ℕ → ℤ
-firstOctet l m = pos (getD (octetsOf (bare l m)) 0 0)
+firstOctet l m = pos (getD (headerOctets (bare l m)) 0 0)
 
 -- a request without fields, and the first octets of a padding field of length n
 unfoldable pub request : List ℕ
-request = octetsOf (bare 0 3)
+request = headerOctets (bare 0 3)
 
 abbrev pub padding : ℕ → List ℕ
 padding n = octets 2 0xF501 ++ octets 2 n

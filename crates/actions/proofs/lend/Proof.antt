@@ -1,5 +1,5 @@
 -- `lend` meets its contract: the octets are the line's. Assumes nothing.
-use Rattle.words.proofs.Laying.{octets-at}
+use Rattle.words.proofs.Writing.{octets-at}
 use Rattle.actions.proofs.Keeping.{lent}
 use borrow.Author.Needs.{needs}
 use Rattle.actions.proofs.lend.Statement.{statement}
@@ -36,8 +36,8 @@ returns : tie.Need-returns
 returns c =
     let at = c .before .before .before .before .before .before in
     let put = at .before .before .before .before .before in
-    let laid = put .before .before in
-    lent _ _ _ _ _ (octets-at _ _ _ 1 (laid .before .before .piece .ensures) (laid .octets-of .ensures)) (put .put16 .ensures) (at .copy .ensures)
+    let written = put .before .before in
+    lent _ _ _ _ _ (octets-at _ _ _ 1 (written .before .before .piece .ensures) (written .octets-of .ensures)) (put .put16 .ensures) (at .copy .ensures)
 
 pub lend-spec : {M : Type 1} → statement M
 lend-spec =

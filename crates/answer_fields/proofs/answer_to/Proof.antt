@@ -3,7 +3,7 @@ use mathlib.Core.Path.{subst}
 use native.Mathlib.Omega.{arith}
 use Rattle.chain.specs.Content.{chainOctets, draftName}
 use Rattle.field_role.proofs.Roles.{Suits}
-use Rattle.answer_fields.proofs.Laying.{lays-none, information-whole, name-cut}
+use Rattle.answer_fields.proofs.Writing.{written-none, information-whole, name-cut}
 use borrow.Author.Needs.{needs}
 use Rattle.answer_fields.proofs.answer_to.Statement.{statement}
 use Rattle.answer_fields.proofs.answer_to.Tie as tie
@@ -81,7 +81,7 @@ returns-3 c =
 
 returns-4 : tie.Need-returns-4
 unfolding chainOctets
-returns-4 c = rw (c .enum-told3 .given .1) (lays-none _ _)
+returns-4 c = rw (c .enum-told3 .given .1) (written-none _ _)
 
 pub answer-to-spec : {M : Type 1} → statement M
 answer-to-spec =

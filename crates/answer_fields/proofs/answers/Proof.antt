@@ -1,4 +1,4 @@
--- `answers` meets its contract: what answers a field is laid, and the rest after it; a field of a type that is not answered changes nothing.
+-- `answers` meets its contract: what answers a field is written, and the rest after it; a field of a type that is not answered changes nothing.
 -- Assumes nothing.
 use mathlib.Core.Path.{sym, _∙_, subst⁻¹}
 use Prim.Native.Nat.{_-_, _<_}

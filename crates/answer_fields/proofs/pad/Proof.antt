@@ -1,5 +1,5 @@
 -- `pad` meets its contract: one field, or nothing where nothing is left. Assumes nothing.
-use Rattle.answer_fields.proofs.Laying.{padding-none, padding-laid}
+use Rattle.answer_fields.proofs.Writing.{padding-none, padding-written}
 use borrow.Author.Needs.{needs}
 use Rattle.answer_fields.proofs.pad.Statement.{statement}
 use Rattle.answer_fields.proofs.pad.Tie as tie
@@ -41,7 +41,7 @@ returns c =
     let at-put16 = at-put162 .before .before .before .before in
     let at-then1 = at-put16 .before .before in
     let start = at-then1 .before .before in
-    padding-laid (start .args .out .now) (start .args .at) (at-then1 .if1 .taken) (start .pre .2) (at-put16 .put16 .ensures) (at-put162 .put162 .ensures) (at-zero .zero .ensures)
+    padding-written (start .args .out .now) (start .args .at) (at-then1 .if1 .taken) (start .pre .2) (at-put16 .put16 .ensures) (at-put162 .put162 .ensures) (at-zero .zero .ensures)
 
 returns-2 : tie.Need-returns-2
 returns-2 c = padding-none (c .before .before .args .out .now) (c .before .before .args .at) (c .if1 .left)

@@ -1,5 +1,5 @@
--- `put_field` meets its contract: its four parts are laid one after the other. Assumes nothing.
-use Rattle.answer_fields.proofs.Laying.{field-laid}
+-- `put_field` meets its contract: its four parts are written one after the other. Assumes nothing.
+use Rattle.answer_fields.proofs.Writing.{field-written}
 use borrow.Author.Needs.{needs}
 use Rattle.answer_fields.proofs.put_field.Statement.{statement}
 use Rattle.answer_fields.proofs.put_field.Tie as tie
@@ -60,7 +60,7 @@ returns c =
     let at-put16 = at-put162 .before .before .before .before in
     let start = at-put16 .before .before .before .before in
     let a = start .args in
-    field-laid (a .kind) (a .n) (a .from) (a .at) (a .source .now) (a .out .now) (start .pre .1) (start .pre .2)
+    field-written (a .kind) (a .n) (a .from) (a .at) (a .source .now) (a .out .now) (start .pre .1) (start .pre .2)
     (at-put16 .put16 .ensures)
     (at-put162 .put162 .ensures)
     (at-copy .copy .ensures)

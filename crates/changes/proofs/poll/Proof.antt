@@ -2,7 +2,7 @@
 use mathlib.Core.Path.{_∙_}
 use mir.Syntax.{w8}
 use mir.Facts.{toZ-ofZ}
-use Rattle.words.proofs.Laying.{octets-at}
+use Rattle.words.proofs.Writing.{octets-at}
 use Rattle.changes.proofs.Changing.{poll-as, left}
 use borrow.Author.Needs.{needs}
 use Rattle.changes.proofs.poll.Statement.{statement}
@@ -44,14 +44,14 @@ returns c =
     let mode = at .before .before in
     let exponent = mode .before in
     let cookie = exponent .before in
-    let laid = cookie .before .before .before in
+    let written = cookie .before .before .before in
     left _ _ _ _ _
     (poll-as _ _ _ _ _ _
     (cookie .before .u8-at .ensures)
     (cookie .u64-at .ensures)
     (toZ-ofZ {w = w8} (record { sfits = exponent .i8-at .ok }) ∙ exponent .i8-at .ensures)
     (mode .mode-at .ensures)
-    (octets-at _ _ _ 5 (laid .before .before .piece .ensures) (laid .octets-of .ensures)))
+    (octets-at _ _ _ 5 (written .before .before .piece .ensures) (written .octets-of .ensures)))
     (at .poll .ensures)
 
 pub poll-spec : {M : Type 1} → statement M

@@ -1,5 +1,5 @@
 -- `receive` meets its contract: its values are the line's. Assumes nothing.
-use Rattle.words.proofs.Laying.{octets-at}
+use Rattle.words.proofs.Writing.{octets-at}
 use Rattle.changes.proofs.Changing.{receive-as, left}
 use borrow.Author.Needs.{needs}
 use Rattle.changes.proofs.receive.Statement.{statement}
@@ -32,11 +32,11 @@ same-length c = search needs
 returns : tie.Need-returns
 returns c =
     let at = c .before .before .before .before in
-    let laid = at .before .before .before .before .before in
+    let written = at .before .before .before .before .before in
     left _ _ _ _ _
     (receive-as _ _ _ _
     (at .before .before .before .u8-at .ensures)
-    (octets-at _ _ _ 3 (laid .before .before .piece .ensures) (laid .octets-of .ensures))
+    (octets-at _ _ _ 3 (written .before .before .piece .ensures) (written .octets-of .ensures))
     (at .before .u64-at .ensures))
     (at .receive .ensures)
 

@@ -21,7 +21,7 @@ returns-2 : tie.Need-returns-2
 unfolding roleWith
 returns-2 c =
     rw (eq-eqb _ _ (c .before .before .before .if1 .taken), c .before .before .if2 .left)
-    (c .request .ensures ∙ ap (λ (o : ℕ). requestRole o (c .before .before .before .before .before .args .field .length)) (c .before .get16 .ensures))
+    (c .request .ensures ∙ ap (λ (o : ℕ). requestRole o (c .before .before .before .before .before .args .field .size)) (c .before .get16 .ensures))
 
 returns-3 : tie.Need-returns-3
 unfolding roleWith

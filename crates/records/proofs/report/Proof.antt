@@ -53,7 +53,7 @@ use Rattle.records.proofs.value.Report as R
 use Rattle.records.proofs.value.Report.Laws as R′
 use Rattle.records.proofs.Slots.{none, length-in, placeFrom}
 use Rattle.records.proofs.Reporting.{report-absent, report-found}
-use Rattle.records.proofs.Walk.{ifs, word, lent, fits-place, at-list, vals, Sees, Has, held-owns, IsRecord, IsCookie, typed, takes, puts-it, Asks, calls-told, calls-plain, plain-pre, slice-pre}
+use Rattle.records.proofs.Walk.{ifs, word, lent, fits-place, at-list, vals, Sees, Has, held-owns, IsRecord, IsCookie, typed, takes, puts-it, Asks, calls-ensured, calls-plain, plain-pre, slice-pre}
 use Rattle.records.proofs.Finding.{Finds, calls-find}
 use Rattle.records.proofs.Lending.{shares-out, shares-back}
 use Rattle.records.proofs.find.Symbol as find-def
@@ -213,7 +213,7 @@ module _ {M : Type 1} (𝓤 : URA M) (H : Heap 𝓤) (A : Atoms 𝓤) (W : Given
       shares-out ! tt ys b o gn (λ α γ₁.
       -- [the token of α; the shared slice; what is kept; _16; …]
       use2 W (raw (Judges 𝓤 H A mem run .pre (judged α γ₁))) (slice-pre 𝓤 H A W (α ∷ []) fullShare (Sees (α ∷ []) b o γ₁ ys) [] tt tt tt tt) $
-      calls-told ! (fmOf 𝓤 H (W .laws) 𝓣) wrong.ended (wrong.clauses 𝓤 H A mem run) (known .knows-wrong) (judged α γ₁) vbool bool-tells (λ r. r ≡ wrongRecords (recordsIn ys)) (λ r e. refl) (and-then ! (load ! (from ! (stop !)) (look ! 18 refl)) (no-more !)) (λ w _ ew.
+      calls-ensured ! (fmOf 𝓤 H (W .laws) 𝓣) wrong.ended (wrong.clauses 𝓤 H A mem run) (known .knows-wrong) (judged α γ₁) vbool bool-tells (λ r. r ≡ wrongRecords (recordsIn ys)) (λ r e. refl) (and-then ! (load ! (from ! (stop !)) (look ! 18 refl)) (no-more !)) (λ w _ ew.
       use1 W (‵ (flft (α ∷ []) fullShare) ⊛ ‵ ftrue) (id⊢ 𝓤 _) $ split ! $ move ! (1 ∷ []) $ drop ! $ shares-back ! tt ys b o α $ land ! (from ! (stop !)) (init ! 27 refl (tt, tt)) $
       assigns ! (addr ! (from ! (fld ! refl (hop ! (look-in ! 33 (sub ! 0 refl (whole !))) (stop !))))) (from ! (stop !)) (init ! 17 refl (tt, tt)) $
       assigns ! (agg ! (and-then ! (load ! (from ! (stop !)) (look ! 17 refl)) (and-then ! (load ! (from ! (fld ! refl (stop !))) (look-in ! 33 (sub ! 1 refl (whole !)))) (no-more !)))) (from ! (stop !)) (init ! 15 refl (tt, (tt, (record { fits = gn .0 }, tt)))) $

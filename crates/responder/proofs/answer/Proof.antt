@@ -21,7 +21,7 @@ given c = record {
   request = c .args .request .now;
   receive = c .args .receive;
   estimate = c .args .estimate;
-  fresh = c .args .fresh .0;
+  freshCookie = c .args .fresh-cookie .0;
   server = c .args .server;
   filter = c .args .filter .now;
   information = c .args .information .now;
@@ -45,11 +45,11 @@ asked-is c =
 
 -- so that 8 is tested as the definition has it
 fresh-test : (c : tie.After-wrong-fresh) → let s = start (c .before .before .before .before .before .before) in
-    c .wrong-fresh .result ≡ wrongFresh (asking (given s)) (s .args .fresh .0) (rowOf (s .args .store .now))
+    c .wrong-fresh .result ≡ wrongFresh (asking (given s)) (s .args .fresh-cookie .0) (rowOf (s .args .store .now))
 fresh-test c =
     let at-asked = c .before .before .before in
     let s = start (at-asked .before .before .before) in
-    c .wrong-fresh .ensures ∙ ap (λ (h : Header). wrongFresh h (s .args .fresh .0) (rowOf (s .args .store .now))) (asked-is at-asked)
+    c .wrong-fresh .ensures ∙ ap (λ (h : Header). wrongFresh h (s .args .fresh-cookie .0) (rowOf (s .args .store .now))) (asked-is at-asked)
 
 check-requires : tie.Need-check-requires
 check-requires c κs = search needs
@@ -159,7 +159,7 @@ returns-5 c =
     let sent = octets-sent g (rowOf (a .store .now)) (asked-is at-asked) (at-time .time .ensures) (at-header .header-of .ensures) (at-write .write .ensures) in
     answered g (a .store .now) (a .out .now) (zero first) (sym (fresh-test at-fresh) ∙ third .before .if2 .left) (third .if3 .left)
     (lent-back (a .out .now) (at-write .write .last .1 .1 .1 .1 .0) (length (a .request .now)) ∙ ap (λ (l : List ℕ). l ++ drop (length (a .request .now)) (a .out .now)) sent)
-    (at-keep .keep .ensures ∙ ap (λ (h : Header). storeOctets (sizeOf (a .store .now)) (rowAfter h (a .fresh .0) (sizeOf (a .store .now)) (rowOf (a .store .now)))) (asked-is at-asked))
+    (at-keep .keep .ensures ∙ ap (λ (h : Header). storeOctets (sizeOf (a .store .now)) (rowAfter h (a .fresh-cookie .0) (sizeOf (a .store .now)) (rowOf (a .store .now)))) (asked-is at-asked))
 
 pub answer-spec : {M : Type 1} → statement M
 answer-spec =

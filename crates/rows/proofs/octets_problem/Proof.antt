@@ -8,15 +8,15 @@ use borrow.Author.Needs.{needs}
 use Rattle.rows.proofs.octets_problem.Statement.{statement}
 use Rattle.rows.proofs.octets_problem.Tie as tie
 
-slice-aggregate-lay : tie.Need-slice-aggregate-lay
-slice-aggregate-lay c = search needs
+slice-aggregate-write : tie.Need-slice-aggregate-write
+slice-aggregate-write c = search needs
 
-lay-requires : tie.Need-lay-requires
-lay-requires c κs = search needs
+write-requires : tie.Need-write-requires
+write-requires c κs = search needs
 
 returns : tie.Need-returns
 unfolding octetsProblem
-returns c = ap (λ (w : Value × List ℕ). w .0 .problem) (c .before .lay .ensures)
+returns c = ap (λ (w : Value × List ℕ). w .0 .problem) (c .before .write .ensures)
 
 pub octets-problem-spec : {M : Type 1} → statement M
-octets-problem-spec = tie.close (tie.spec slice-aggregate-lay lay-requires returns)
+octets-problem-spec = tie.close (tie.spec slice-aggregate-write write-requires returns)

@@ -1,5 +1,5 @@
 -- `answer` meets its contract: its octets are the line's. Assumes nothing.
-use Rattle.words.proofs.Laying.{octets-at}
+use Rattle.words.proofs.Writing.{octets-at}
 use Rattle.actions.proofs.Keeping.{answered-all}
 use borrow.Author.Needs.{needs}
 use Rattle.actions.proofs.answering.answer.Statement.{statement}

@@ -1,5 +1,5 @@
 -- `answer_to` meets its contract: the output is the line's. Assumes nothing.
-use Rattle.words.proofs.Laying.{octets-at}
+use Rattle.words.proofs.Writing.{octets-at}
 use Rattle.actions.proofs.Keeping.{answered}
 use borrow.Author.Needs.{needs}
 use Rattle.actions.proofs.answering.answer_to.Statement.{statement}
@@ -26,8 +26,8 @@ same-length c = search needs
 returns : tie.Need-returns
 returns c =
     let at = c .before .before .before .before .before .before .before in
-    let laid = at .before .before .before in
-    answered _ _ _ (at .answer-into .result) _ _ _ _ _ (octets-at _ _ _ 16 (laid .before .before .piece .ensures) (laid .octets-of .ensures)) (at .answer-into .ensures)
+    let written = at .before .before .before in
+    answered _ _ _ (at .answer-into .result) _ _ _ _ _ (octets-at _ _ _ 16 (written .before .before .piece .ensures) (written .octets-of .ensures)) (at .answer-into .ensures)
 
 pub answer-to-spec : {M : Type 1} → statement M
 answer-to-spec =

@@ -8,7 +8,7 @@ use mir.Facts.{toZ-ofZ}
 use Rattle.client_rules.specs.Call.{poll}
 use Rattle.client_rules.specs.Octets.{stepOctets}
 use Rattle.client.specs.Answers.{isInterleaved}
-use Rattle.c_structs.proofs.Told.{polled-told}
+use Rattle.c_structs.proofs.Converted.{polled-converted}
 use borrow.Author.Needs.{needs}
 use Rattle.ntp5.proofs.client_calls.ntp5_poll.Statement.{statement}
 use Rattle.ntp5.proofs.client_calls.ntp5_poll.Tie as tie
@@ -34,7 +34,7 @@ returns c =
     let start = at .before .before .before .before .before .before in
     let a = start .args in
     let exponent : toZ w8 (ofZ w8 (a .exponent)) ≡ a .exponent = toZ-ofZ (start .fits .exponent) in
-    polled-told _ (at .poll .result) _ _ (c .of-polled .ensures) ∙ at .poll .ensures
+    polled-converted _ (at .poll .result) _ _ (c .of-polled .ensures) ∙ at .poll .ensures
     ∙ ap (λ (e : ℤ). stepOctets (poll (a .association) (a .client-cookie) e (isInterleaved (at .before .before .before .mode .result)) (a .out .now)) (a .table .now)) exponent
     ∙ ap (λ (i : Bool). stepOctets (poll (a .association) (a .client-cookie) (a .exponent) i (a .out .now)) (a .table .now)) (at .before .before .before .mode .ensures)
 

@@ -3,7 +3,7 @@ use mathlib.Core.Path.{_∙_}
 use mir.Syntax.{w8}
 use mir.Facts.{toZ-ofZ}
 use Rattle.responder_rules.specs.Answer.{answerOf}
-use Rattle.c_structs.proofs.Told.{answered-told}
+use Rattle.c_structs.proofs.Converted.{answered-converted}
 use borrow.Author.Needs.{needs}
 use Rattle.ntp5.proofs.responder_calls.ntp5_answer.Statement.{statement}
 use Rattle.ntp5.proofs.responder_calls.ntp5_answer.Tie as tie
@@ -27,13 +27,13 @@ returns c =
     let a = start .args in
     let poll = toZ-ofZ {w = w8} {z = a .poll} (start .fits .poll) in
     let precision = toZ-ofZ {w = w8} {z = a .precision} (start .fits .precision) in
-    answered-told _ (at .answer .result) _ _ (c .of-answered .ensures) ∙ at .answer .ensures
+    answered-converted _ (at .answer .result) _ _ (c .of-answered .ensures) ∙ at .answer .ensures
     ∙ (λ i. answerOf
     (record {
       request = a .request .now;
       receive = a .receive-time;
       estimate = a .estimate;
-      fresh = a .fresh-cookie;
+      freshCookie = a .fresh-cookie;
       server = record {
         leap = a .leap;
         stratum = a .stratum;

@@ -16,7 +16,7 @@ leave-requires c κs =
     let known = at-then .before .before in
     let start = known .before in
     let b : Octets (start .args .store .now) = λ i. omega (arith, known .slice-known .given i) in
-    (start .pre .0, time-wanted (start .args .store .now) b (start .pre .0) (start .args .asked) (start .args .fresh .0) (start .args .time) (start .pre .1) (sym (at-then .before .wants-interleaved .ensures) ∙ at-then .if1 .taken))
+    (start .pre .0, time-wanted (start .args .store .now) b (start .pre .0) (start .args .asked) (start .args .fresh-cookie .0) (start .args .time) (start .pre .1) (sym (at-then .before .wants-interleaved .ensures) ∙ at-then .if1 .taken))
 
 join-requires : tie.Need-join-requires
 join-requires c κs = search needs
@@ -32,7 +32,7 @@ returns c =
     let known = at-then .before .before in
     let start = known .before in
     let b : Octets (start .args .store .now) = λ i. omega (arith, known .slice-known .given i) in
-    keep-done (start .args .store .now) b (start .pre .0) (start .args .asked) (start .args .fresh .0) (start .args .time) (start .pre .1)
+    keep-done (start .args .store .now) b (start .pre .0) (start .args .asked) (start .args .fresh-cookie .0) (start .args .time) (start .pre .1)
     (sym (at-then .before .wants-interleaved .ensures) ∙ at-then .if1 .taken) (at-leave .leave .ensures) (at-join .join .ensures)
 
 returns-2 : tie.Need-returns-2
@@ -40,7 +40,7 @@ returns-2 c =
     let known = c .before .before in
     let start = known .before in
     let b : Octets (start .args .store .now) = λ i. omega (arith, known .slice-known .given i) in
-    keep-none (start .args .store .now) b (start .pre .0) (start .args .asked) (start .args .fresh .0) (start .args .time) (start .pre .1)
+    keep-none (start .args .store .now) b (start .pre .0) (start .args .asked) (start .args .fresh-cookie .0) (start .args .time) (start .pre .1)
     (sym (c .before .wants-interleaved .ensures) ∙ c .if1 .left)
 
 pub keep-spec : {M : Type 1} → statement M

@@ -21,7 +21,7 @@ returns c =
     let start = known .before in
     let b : Octets (start .args .store .now) = λ i. omega (arith, known .shared-slice-known .given i) in
     rw (at-find .find .ensures, sym (at-then .before .wants-interleaved .ensures) ∙ at-then .if1 .taken)
-    (fresh-wrong (start .args .store .now) b (start .pre) (start .args .fresh .0))
+    (fresh-wrong (start .args .store .now) b (start .pre) (start .args .fresh-cookie .0))
 
 returns-2 : tie.Need-returns-2
 returns-2 c = sym (rw (sym (c .before .wants-interleaved .ensures) ∙ c .if1 .left))

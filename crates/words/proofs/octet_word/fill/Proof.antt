@@ -1,10 +1,10 @@
--- `fill` meets its contract: what is left to lay gives the whole. Assumes nothing.
+-- `fill` meets its contract: what is left to write gives the whole. Assumes nothing.
 use mathlib.Core.Path.{_≡_, refl, sym, _∙_}
 use Prim.Native.Nat.{_≤_}
 use lib.ListN.{length}
 use borrow.Author.Needs.{needs}
 use Rattle.words.specs.OctetWord.{fillFrom}
-use Rattle.words.proofs.Laying.{fill-next, fill-done}
+use Rattle.words.proofs.Writing.{fill-next, fill-done}
 use Rattle.words.proofs.octet_word.fill.Statement.{statement}
 use Rattle.words.proofs.octet_word.fill.Tie as tie
 

@@ -1,5 +1,5 @@
 -- `pair` meets its contract. Assumes nothing.
-use Rattle.words.proofs.Laying.{pair-as}
+use Rattle.words.proofs.Writing.{pair-as}
 use borrow.Author.Needs.{needs}
 use Rattle.words.proofs.octet_word.pair.Statement.{statement}
 use Rattle.words.proofs.octet_word.pair.Tie as tie

@@ -1,4 +1,4 @@
--- Laying the runs of a word. Assumes nothing.
+-- Writing the runs of a word. Assumes nothing.
 use mathlib.Core.Path.{_≡_, refl, sym, ap, _∙_}
 use mathlib.Core.Bool.{Bool, true, false, cond, _&&_}
 use mathlib.Core.List.{List, []}
@@ -12,7 +12,7 @@ use Rattle.octets.specs.Number.{getAt, putAt}
 use Rattle.words.specs.declared.number.Value.{Value}
 use Rattle.words.specs.declared.octet_word.Run.{Run}
 use Rattle.words.specs.Numeral.{digitOf, value}
-use Rattle.words.specs.OctetWord.{runOf, pairOf, judged, fillFrom, layFrom, layOf, octetsOf}
+use Rattle.words.specs.OctetWord.{runOf, pairOf, judged, fillFrom, writeFrom, writeOf, wordOctets}
 use Rattle.words.specs.Line.{octetsAt}
 use Rattle.text.specs.Place.{pieceOf}
 
@@ -69,57 +69,57 @@ module _ (w t : List ℕ) (at : ℕ) (h : t ≡ drop at w) where
   rest-again n e f = let z : n ≡ drop (at + e) w = f ∙ ap (drop e) h ∙ drop-drop e at w in rw z (rest-place w (at + e))
 
 module _ (b : List ℕ) (count : ℕ) where
-  pub lay-turned : (turns : ℕ) (s : List ℕ) → turns ≤ 0 → (value count 0, b) ≡ layFrom turns b count s
-  unfolding layFrom
-  lay-turned turns s h = let z : turns ≡ 0 = omega arith in rw z
+  pub write-turned : (turns : ℕ) (s : List ℕ) → turns ≤ 0 → (value count 0, b) ≡ writeFrom turns b count s
+  unfolding writeFrom
+  write-turned turns s h = let z : turns ≡ 0 = omega arith in rw z
 
-  pub lay-done : (turns : ℕ) (s : List ℕ) → length s ≤ 0 → (value count 0, b) ≡ layFrom turns b count s
-  unfolding layFrom
-  lay-done zero s h = refl
-  lay-done (suc n) s h = rw (le-ltb 0 (length s) h)
+  pub write-done : (turns : ℕ) (s : List ℕ) → length s ≤ 0 → (value count 0, b) ≡ writeFrom turns b count s
+  unfolding writeFrom
+  write-done zero s h = refl
+  write-done (suc n) s h = rw (le-ltb 0 (length s) h)
 
   module _ (s : List ℕ) (r : Run) (problem : ℕ) (some : 0 < length s) (e : r ≡ runOf s) (f : problem ≡ judged r count) where
-    pub lay-wrong : (turns : ℕ) → 0 < turns → (problem ≡ 0 → ⊥) → (value count problem, b) ≡ layFrom turns b count s
-    unfolding layFrom
-    lay-wrong zero h t = absurd (omega arith)
-    lay-wrong (suc n) h t =
+    pub write-wrong : (turns : ℕ) → 0 < turns → (problem ≡ 0 → ⊥) → (value count problem, b) ≡ writeFrom turns b count s
+    unfolding writeFrom
+    write-wrong zero h t = absurd (omega arith)
+    write-wrong (suc n) h t =
         let z : problem ≡ judged (runOf s) count = f ∙ ap (λ (x : Run). judged x count) e in
         rw (lt-ltb 0 (length s) some, ← z, ne-eqb problem 0 t)
 
-    pub lay-next : (turns : ℕ) → 0 < turns → problem ≡ 0 → (b′ rest : List ℕ) (octet : ℕ) → octet ≡ pairOf s
-        → b′ ≡ fillFrom b count (r .times) octet → rest ≡ drop (r .end) s → layFrom (turns - 1) b′ (count + r .times) rest ≡ layFrom turns b count s
-    unfolding layFrom
-    lay-next zero h t b′ rest octet g k l = absurd (omega arith)
-    lay-next (suc n) h t b′ rest octet g k l =
+    pub write-next : (turns : ℕ) → 0 < turns → problem ≡ 0 → (b′ rest : List ℕ) (octet : ℕ) → octet ≡ pairOf s
+        → b′ ≡ fillFrom b count (r .times) octet → rest ≡ drop (r .end) s → writeFrom (turns - 1) b′ (count + r .times) rest ≡ writeFrom turns b count s
+    unfolding writeFrom
+    write-next zero h t b′ rest octet g k l = absurd (omega arith)
+    write-next (suc n) h t b′ rest octet g k l =
         let z : problem ≡ judged (runOf s) count = f ∙ ap (λ (x : Run). judged x count) e in
         let y : suc n - 1 ≡ n = omega arith in
         rw (lt-ltb 0 (length s) some, ← z, eq-eqb problem 0 t, y, l, k, g, e)
 
 module _ (s b : List ℕ) (a : ℕ) (e : a ≡ getAt s 0 1) where
-  lay-as : cond (eqb (length s) 1 && eqb a 45) (value 0 0, b) (layFrom (length s) b 0 s) ≡ layOf s b
-  unfolding layOf
-  lay-as = rw e
+  write-as : cond (eqb (length s) 1 && eqb a 45) (value 0 0, b) (writeFrom (length s) b 0 s) ≡ writeOf s b
+  unfolding writeOf
+  write-as = rw e
 
-  pub lay-minus : (eqb (length s) 1 && eqb a 45) ≡ true → (value 0 0, b) ≡ layOf s b
-  lay-minus t = sym (ap (λ (k : Bool). cond k (value 0 0, b) (layFrom (length s) b 0 s)) t) ∙ lay-as
+  pub write-minus : (eqb (length s) 1 && eqb a 45) ≡ true → (value 0 0, b) ≡ writeOf s b
+  write-minus t = sym (ap (λ (k : Bool). cond k (value 0 0, b) (writeFrom (length s) b 0 s)) t) ∙ write-as
 
-  pub lay-all : (eqb (length s) 1 && eqb a 45) ≡ false → layFrom (length s) b 0 s ≡ layOf s b
-  lay-all t = sym (ap (λ (k : Bool). cond k (value 0 0, b) (layFrom (length s) b 0 s)) t) ∙ lay-as
+  pub write-all : (eqb (length s) 1 && eqb a 45) ≡ false → writeFrom (length s) b 0 s ≡ writeOf s b
+  write-all t = sym (ap (λ (k : Bool). cond k (value 0 0, b) (writeFrom (length s) b 0 s)) t) ∙ write-as
 
--- THE OCTETS OF A WORD, where a buffer was laid
+-- THE OCTETS OF A WORD, where a buffer was written
 
-module _ (s b b′ : List ℕ) (v : Value) (e : (v, b′) ≡ layOf s b) where
-  laid-as : take (v .value) b′ ≡ octetsOf s b
-  unfolding octetsOf
-  laid-as = ap (λ (w : Value × List ℕ). take (w .0 .value) (w .1)) e
+module _ (s b b′ : List ℕ) (v : Value) (e : (v, b′) ≡ writeOf s b) where
+  written-as : take (v .value) b′ ≡ wordOctets s b
+  unfolding wordOctets
+  written-as = ap (λ (w : Value × List ℕ). take (w .0 .value) (w .1)) e
 
-  pub laid-part : take (v .value - 0) b′ ≡ octetsOf s b
-  laid-part = let z : v .value - 0 ≡ v .value = omega arith in rw z laid-as
+  pub written-part : take (v .value - 0) b′ ≡ wordOctets s b
+  written-part = let z : v .value - 0 ≡ v .value = omega arith in rw z written-as
 
-  pub laid-all : length b′ < v .value → b′ ≡ octetsOf s b
-  laid-all h = sym (take-all (v .value) b′ (omega arith)) ∙ laid-as
+  pub written-all : length b′ < v .value → b′ ≡ wordOctets s b
+  written-all h = sym (take-all (v .value) b′ (omega arith)) ∙ written-as
 
--- a word of a line, laid among zeros
-pub octets-at : (line word out : List ℕ) (n : ℕ) → word ≡ pieceOf line n 32 → out ≡ octetsOf word (replicate 4096 0) → out ≡ octetsAt line n
+-- a word of a line, written among zeros
+pub octets-at : (line word out : List ℕ) (n : ℕ) → word ≡ pieceOf line n 32 → out ≡ wordOctets word (replicate 4096 0) → out ≡ octetsAt line n
 unfolding octetsAt
 octets-at line word out n e f = f ∙ rw e

@@ -1,4 +1,4 @@
--- Octets laid over others: none, some after some, one field. Assumes nothing.
+-- Octets written over others: none, some after some, one field. Assumes nothing.
 use mathlib.Core.Path.{_≡_, refl, sym, ap, _∙_}
 use mathlib.Core.Bool.{Bool, true, false}
 use mathlib.Core.List.{List, [], _∷_, _++_, append-assoc, append-nil}
@@ -17,19 +17,19 @@ use Rattle.chain.specs.Chain.{padded}
 use Rattle.chain.specs.Content.{content, chainOctets, draftName}
 use Rattle.chain.proofs.Contents.{length-chain-one}
 use Rattle.responder_rules.specs.Answer.{paddingOf}
-use Rattle.answer_fields.specs.Pass.{Lays}
+use Rattle.answer_fields.specs.Pass.{WrittenAt}
 
--- nothing laid
-pub lays-none : (s : List ℕ) (at : ℕ) → Lays s at [] at s
-lays-none s at = record { place = sym (add-zero at); content = sym (rw (append-nil, add-zero) (take-append-drop at s)) }
+-- nothing written
+pub written-none : (s : List ℕ) (at : ℕ) → WrittenAt s at [] at s
+written-none s at = record { place = sym (add-zero at); content = sym (rw (append-nil, add-zero) (take-append-drop at s)) }
 
 -- the length stays
-pub length-laid : {s xs t : List ℕ} {at next : ℕ} → Lays s at xs next t → at + length xs ≤ length s → length t ≡ length s
-length-laid {s} {xs} {t} {at} l h = ap length (l .content) ∙ length-paste s at xs (length xs) h (omega arith)
+pub length-written : {s xs t : List ℕ} {at next : ℕ} → WrittenAt s at xs next t → at + length xs ≤ length s → length t ≡ length s
+length-written {s} {xs} {t} {at} l h = ap length (l .content) ∙ length-paste s at xs (length xs) h (omega arith)
 
 -- some after some
-pub lays-next : {s xs t ys u : List ℕ} {at m n : ℕ} → Lays s at xs m t → Lays t m ys n u → n ≤ length s → Lays s at (xs ++ ys) n u
-lays-next {s} {xs} {t} {ys} {u} {at} {m} {n} a b h =
+pub written-next : {s xs t ys u : List ℕ} {at m n : ℕ} → WrittenAt s at xs m t → WrittenAt t m ys n u → n ≤ length s → WrittenAt s at (xs ++ ys) n u
+written-next {s} {xs} {t} {ys} {u} {at} {m} {n} a b h =
     let p = a .place in
     let q = b .place in
     record {
@@ -38,8 +38,8 @@ lays-next {s} {xs} {t} {ys} {u} {at} {m} {n} a b h =
     }
 
 -- what was overwritten right after the part before `at`
-lays-part : {s xs t : List ℕ} {at m : ℕ} → Overwrites s (take at s ++ xs) m t → m ≡ at + length xs → Lays s at xs m t
-lays-part {s} {xs} {t} {at} {m} w e = record {
+written-part : {s xs t : List ℕ} {at m : ℕ} → Overwrites s (take at s ++ xs) m t → m ≡ at + length xs → WrittenAt s at xs m t
+written-part {s} {xs} {t} {at} {m} w e = record {
   place = e;
   content = w .content ∙ rw (e, take-all (length xs) xs (omega arith));
 }
@@ -68,11 +68,11 @@ module _ (kind n from at : ℕ) (source s : List ℕ) (inside : from + n ≤ len
   part-length : length (take n (drop from source)) ≡ n
   part-length = length-take-le n (drop from source) (rw length-drop (omega arith))
 
-  pub field-laid : {s1 s2 s3 s4 : List ℕ} → s1 ≡ putAt s at 2 kind → s2 ≡ putAt s1 (at + 2) 2 (n + 4)
+  pub field-written : {s1 s2 s3 s4 : List ℕ} → s1 ≡ putAt s at 2 kind → s2 ≡ putAt s1 (at + 2) 2 (n + 4)
       → s3 ≡ copyAt s2 (at + 4) source from n → s4 ≡ zeroAt s3 (at + 4 + n) (padded n - n)
-      → Lays s at (chainOctets (content kind (take n (drop from source)) ∷ [])) (at + 4 + padded n) s4
+      → WrittenAt s at (chainOctets (content kind (take n (drop from source)) ∷ [])) (at + 4 + padded n) s4
   unfolding chainOctets
-  field-laid {s1} {s2} e1 e2 e3 e4 =
+  field-written {s1} {s2} e1 e2 e3 e4 =
       let d = take n (drop from source) in
       let four : at + 2 + 2 ≡ at + 4 = omega arith in
       let end : at + 4 + n + (padded n - n) ≡ at + 4 + padded n = omega arith in
@@ -82,7 +82,7 @@ module _ (kind n from at : ℕ) (source s : List ℕ) (inside : from + n ≤ len
       rw four at (then-part (octets 2 (n + 4)) 2 w1 (length-octets 2 _) (omega arith) e2) in
       let w3 = then-part d n w2 part-length (omega arith) (e3 ∙ copied s2) in
       let w4 = rw end at (then-part (replicate (padded n - n) 0) (padded n - n) w3 (length-replicate _ _) (omega arith) e4) in
-      lays-part (rw regrouped at w4) (rw (length-chain-one, part-length) (add-assoc at 4 (padded n)))
+      written-part (rw regrouped at w4) (rw (length-chain-one, part-length) (add-assoc at 4 (padded n)))
     where
       copied : (l : List ℕ) → copyAt l (at + 4) source from n ≡ overwrite l (at + 4) (take n (drop from source)) n
       copied l = rw (le-leb _ _ inside, take-all n (take n (drop from source)) (omega (arith, part-length)))
@@ -108,10 +108,10 @@ module _ (s : List ℕ) (at : ℕ) where
       let z : length s - at ≡ 0 = omega arith in
       rw (z, take-all at s h) (sym (append-nil s))
 
-  pub padding-laid : at < length s → (length s - at) % 4 ≡ 0 → {s1 s2 s3 : List ℕ} → s1 ≡ putAt s at 2 0xF501
+  pub padding-written : at < length s → (length s - at) % 4 ≡ 0 → {s1 s2 s3 : List ℕ} → s1 ≡ putAt s at 2 0xF501
       → s2 ≡ putAt s1 (at + 2) 2 (length s - at) → s3 ≡ zeroAt s2 (at + 4) (length s - at - 4)
       → s3 ≡ take at s ++ chainOctets (paddingOf (length s - at))
-  padding-laid h k {s1} {s2} {s3} e1 e2 e3 =
+  padding-written h k {s1} {s2} {s3} e1 e2 e3 =
       let m = length s - at in
       let four : at + 2 + 2 ≡ at + 4 = omega arith in
       let end : at + 4 + (m - 4) ≡ length s = omega arith in

@@ -53,25 +53,25 @@ weighing-same (weighing.Refused n) = refl
 -- WHAT AN EXPORT ENSURES, where r is made of the core's answer and the core ensures its own
 
 module _ (r : Written) (p : Polled) (out t : List ℕ) where
-  pub polled-told : r ≡ ofPolled p → _≡_ {A = Answer × List ℕ} (writtenNumbers r out, t) (polledAnswer p out, t)
-  polled-told e = ap (λ (w : Written). (writtenNumbers w out, t)) e ∙ ap (λ (a : Answer). (a, t)) (polled-same p out)
+  pub polled-converted : r ≡ ofPolled p → _≡_ {A = Answer × List ℕ} (writtenNumbers r out, t) (polledAnswer p out, t)
+  polled-converted e = ap (λ (w : Written). (writtenNumbers w out, t)) e ∙ ap (λ (a : Answer). (a, t)) (polled-same p out)
 
 module _ (r : Written) (p : Published) (out t : List ℕ) where
-  pub published-told : r ≡ ofPublished p → _≡_ {A = Answer × List ℕ} (writtenNumbers r out, t) (publishedAnswer p out, t)
-  published-told e = ap (λ (w : Written). (writtenNumbers w out, t)) e ∙ ap (λ (a : Answer). (a, t)) (published-same p out)
+  pub published-converted : r ≡ ofPublished p → _≡_ {A = Answer × List ℕ} (writtenNumbers r out, t) (publishedAnswer p out, t)
+  published-converted e = ap (λ (w : Written). (writtenNumbers w out, t)) e ∙ ap (λ (a : Answer). (a, t)) (published-same p out)
 
 module _ (r : Received) (p : core-received.Received) (t : List ℕ) where
-  pub received-told : r ≡ ofReceived p → _≡_ {A = Answer × List ℕ} (receivedNumbers r, t) (receivedAnswer p, t)
-  received-told e = ap (λ (w : Received). (receivedNumbers w, t)) e ∙ ap (λ (a : Answer). (a, t)) (received-same p)
+  pub received-converted : r ≡ ofReceived p → _≡_ {A = Answer × List ℕ} (receivedNumbers r, t) (receivedAnswer p, t)
+  received-converted e = ap (λ (w : Received). (receivedNumbers w, t)) e ∙ ap (λ (a : Answer). (a, t)) (received-same p)
 
 module _ (r : Verdict) (p : core-verdict.Verdict) (t : List ℕ) where
-  pub verdict-told : r ≡ ofVerdict p → _≡_ {A = Answer × List ℕ} (verdictNumbers r, t) (verdictAnswerOf p, t)
-  verdict-told e = ap (λ (w : Verdict). (verdictNumbers w, t)) e ∙ ap (λ (a : Answer). (a, t)) (verdict-same p)
+  pub verdict-converted : r ≡ ofVerdict p → _≡_ {A = Answer × List ℕ} (verdictNumbers r, t) (verdictAnswerOf p, t)
+  verdict-converted e = ap (λ (w : Verdict). (verdictNumbers w, t)) e ∙ ap (λ (a : Answer). (a, t)) (verdict-same p)
 
 module _ (r : Written) (p : Answered) (out store : List ℕ) where
-  pub answered-told : r ≡ ofAnswered p → outcomeNumbers r out store ≡ outcome p out store
-  answered-told e = ap (λ (w : Written). outcomeNumbers w out store) e ∙ answered-same p out store
+  pub answered-converted : r ≡ ofAnswered p → outcomeNumbers r out store ≡ outcome p out store
+  answered-converted e = ap (λ (w : Written). outcomeNumbers w out store) e ∙ answered-same p out store
 
 module _ (r : Weight) (p : Weighing) where
-  pub weighing-told : r ≡ ofWeighing p → weightNumbers r ≡ numbers p
-  weighing-told e = ap weightNumbers e ∙ weighing-same p
+  pub weighing-converted : r ≡ ofWeighing p → weightNumbers r ≡ numbers p
+  weighing-converted e = ap weightNumbers e ∙ weighing-same p

@@ -1,17 +1,17 @@
--- `lay_runs` meets its contract: what is left to lay gives the whole. Assumes nothing.
+-- `write_runs` meets its contract: what is left to write gives the whole. Assumes nothing.
 use mathlib.Core.Path.{_≡_, refl, sym, ap, _∙_}
 use Prim.Native.Nat.{_+_, _≤_}
 use native.Mathlib.Omega.{arith}
 use lib.ListN.{length, drop, length-drop}
 use borrow.Author.Needs.{needs}
 use borrow.Author.Tests.{ltb-true, ltb-false}
-use Rattle.words.specs.OctetWord.{layFrom}
-use Rattle.words.proofs.Laying.{judged-room, rest-some, rest-short, rest-again, lay-turned, lay-done, lay-wrong, lay-next}
-use Rattle.words.proofs.octet_word.lay_runs.Statement.{statement}
-use Rattle.words.proofs.octet_word.lay_runs.Tie as tie
+use Rattle.words.specs.OctetWord.{writeFrom}
+use Rattle.words.proofs.Writing.{judged-room, rest-some, rest-short, rest-again, write-turned, write-done, write-wrong, write-next}
+use Rattle.words.proofs.octet_word.write_runs.Statement.{statement}
+use Rattle.words.proofs.octet_word.write_runs.Tie as tie
 
 abbrev Inv-loop : tie.InvT-loop
-Inv-loop word buffer₀ at₀ count₀ turns₀ buffer at count turns = (length buffer ≡ length buffer₀) × (count ≤ 4096) × (layFrom turns buffer count (drop at word) ≡ layFrom (length word) buffer₀ 0 word)
+Inv-loop word buffer₀ at₀ count₀ turns₀ buffer at count turns = (length buffer ≡ length buffer₀) × (count ≤ 4096) × (writeFrom turns buffer count (drop at word) ≡ writeFrom (length word) buffer₀ 0 word)
 
 abbrev μ-loop : tie.MeasureT-loop
 μ-loop word buffer₀ at₀ count₀ turns₀ buffer at count turns = turns
@@ -42,15 +42,15 @@ returns c =
     let i = x .before in
     let l = i .before .before in
     let w = l .before .before .before .args .word .now in
-    lay-wrong (l .loop .buffer) (l .loop .count) _ _ _ (rest-some w _ (l .loop .at) (x .rest .ensures) (ltb-true _ _ (i .if1 .taken))) (u .run-of .ensures) (j .judge .ensures)
+    write-wrong (l .loop .buffer) (l .loop .count) _ _ _ (rest-some w _ (l .loop .at) (x .rest .ensures) (ltb-true _ _ (i .if1 .taken))) (u .run-of .ensures) (j .judge .ensures)
     (l .loop .turns) (i .before .loop-test .taken) (c .if2 .taken)
-    ∙ ap (layFrom (l .loop .turns) (l .loop .buffer) (l .loop .count)) (x .rest .ensures)
+    ∙ ap (writeFrom (l .loop .turns) (l .loop .buffer) (l .loop .count)) (x .rest .ensures)
     ∙ l .loop .inv .2
 
 pair-requires : tie.Need-pair-requires Inv-loop μ-loop
 pair-requires c κs = search needs
 
--- a run that is laid has room
+-- a run that is written has room
 room : (c : tie.Else2 Inv-loop μ-loop)
     → c .before .before .before .before .before .before .loop .count + c .before .before .run-of .result .times ≤ 4096
 room c =
@@ -90,10 +90,10 @@ loop-again c =
     let w = l .before .before .before .args .word .now in (
       search needs,
       room e,
-      ap (layFrom _ _ _) (rest-again w _ (l .loop .at) (x .rest .ensures) _ (u .run-of .result .end) (c .rest2 .ensures))
-          ∙ lay-next (l .loop .buffer) (l .loop .count) _ _ _ (rest-some w _ (l .loop .at) (x .rest .ensures) (ltb-true _ _ (i .if1 .taken))) (u .run-of .ensures) (j .judge .ensures)
+      ap (writeFrom _ _ _) (rest-again w _ (l .loop .at) (x .rest .ensures) _ (u .run-of .result .end) (c .rest2 .ensures))
+          ∙ write-next (l .loop .buffer) (l .loop .count) _ _ _ (rest-some w _ (l .loop .at) (x .rest .ensures) (ltb-true _ _ (i .if1 .taken))) (u .run-of .ensures) (j .judge .ensures)
           (l .loop .turns) (i .before .loop-test .taken) (e .if2 .left) _ _ _ (p .pair .ensures) (f .fill .ensures) (c .rest2 .ensures)
-          ∙ ap (layFrom (l .loop .turns) (l .loop .buffer) (l .loop .count)) (x .rest .ensures)
+          ∙ ap (writeFrom (l .loop .turns) (l .loop .buffer) (l .loop .count)) (x .rest .ensures)
           ∙ l .loop .inv .2,
     )
 
@@ -104,7 +104,7 @@ returns-2 : tie.Need-returns-2 Inv-loop μ-loop
 returns-2 c =
     let l = c .before .before in
     let w = l .before .before .before .args .word .now in
-    lay-done (l .loop .buffer) (l .loop .count) (l .loop .turns) (drop (l .loop .at) w) (omega (arith, length-drop (l .loop .at) w, ltb-false (l .loop .at) (length w) (c .if1 .left))) ∙ l .loop .inv .2
+    write-done (l .loop .buffer) (l .loop .count) (l .loop .turns) (drop (l .loop .at) w) (omega (arith, length-drop (l .loop .at) w, ltb-false (l .loop .at) (length w) (c .if1 .left))) ∙ l .loop .inv .2
 
 same-length-3 : tie.Need-same-length-3 Inv-loop μ-loop
 same-length-3 c = search needs
@@ -112,10 +112,10 @@ same-length-3 c = search needs
 returns-3 : tie.Need-returns-3 Inv-loop μ-loop
 returns-3 c =
     let l = c .before in
-    lay-turned (l .loop .buffer) (l .loop .count) (l .loop .turns) _ (c .loop-test .left) ∙ l .loop .inv .2
+    write-turned (l .loop .buffer) (l .loop .count) (l .loop .turns) _ (c .loop-test .left) ∙ l .loop .inv .2
 
-pub lay-runs-spec : {M : Type 1} → statement M
-lay-runs-spec =
+pub write-runs-spec : {M : Type 1} → statement M
+write-runs-spec =
     tie.close
     (tie.spec
     Inv-loop
