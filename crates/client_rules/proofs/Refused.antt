@@ -1,0 +1,196 @@
+-- A refusal changes nothing, on any octets lent. Assumes nothing.
+use mathlib.Core.Path.{_≡_, refl, sym, ap, _∙_}
+use mathlib.Core.Bool.{cond, not, _&&_, _||_}
+use mathlib.Core.List.{List, []}
+use Prim.Native.Nat.{ℕ, _*_, _≤_}
+use native.Mathlib.Omega.{arith}
+use borrow.Author.Tests.{eqb-true}
+use lib.Dec.{eqb, ltb}
+use lib.ListN.{length, drop, take-append-drop}
+use lib.Seq.{drop-drop}
+use Rattle.header.specs.Header.{wrongLength, versionOf, modeOf, refusal}
+use Rattle.chain.specs.Chain.{stepRefusal, walk, chainRefusal, soundRefusal}
+use Rattle.chain.specs.declared.cursor.Step.{Step}
+use Rattle.chain.specs.declared.cursor.Step.the-variants.{Found, WrongLength, WrongPadding, End}
+use Rattle.exchange.proofs.Responses.{response-sound}
+use Rattle.poll_request.specs.Request.{pollLength}
+use Rattle.state.specs.Rules.{offered}
+use Rattle.state.specs.Range.{inRange}
+use Rattle.state.specs.Plain.{Place, closed, opened, isLast, placeDo}
+use Rattle.state.specs.declared.event.Event.{Event}
+use Rattle.state.specs.declared.event.Event.the-variants.{Open, Close, Poll, Sent, Receive, Look}
+use Rattle.state.specs.declared.event.Reply.{Reply}
+use Rattle.state.proofs.Tests.{by-test}
+use Rattle.association.specs.Record.{headOf, recordSize}
+use Rattle.association.specs.Encode.{decode}
+use Rattle.association.specs.Step.{onOctets}
+use Rattle.association.proofs.Reached.{by-request}
+use Rattle.client_rules.specs.Call.{Call, clearTable, openOne, closeOne, poll, sent, receive, loopVerdict, publish, Answer, plainAnswer, refusalAnswer, pollAnswer, receiveAnswer}
+use Rattle.client_rules.specs.Select.{Seen, wrongId, allSelected, inRangeSeen, completeSeen, verdictFor, publishFor}
+use Rattle.client_rules.specs.Step.{eventOn, clearing, publishing}
+use Rattle.client_rules.specs.Octets.{tableSize, part, putPart, atOctets, seenOctets}
+use Rattle.client_rules.specs.Refused.{lent, Refused, Refusals}
+
+-- ---- the numbers
+
+step-most : (s : Step) → stepRefusal s ≤ 12
+step-most (Found f c) = omega arith
+step-most WrongLength = omega arith
+step-most WrongPadding = omega arith
+step-most End = omega arith
+
+abbrev Most : ℕ → Type 0
+Most n = n ≤ 12
+
+-- a datagram's refusal is one of the page's
+sound-most : (s : List ℕ) (wanted : ℕ) → soundRefusal s wanted ≤ 12
+unfolding soundRefusal chainRefusal refusal
+sound-most s wanted =
+    by-test Most (eqb (refusal s wanted) 0) (λ e. step-most (walk (drop 48 s) 0 .stop))
+    (λ e. by-test Most (wrongLength s) (λ x. omega arith)
+    (λ x. by-test Most (not (eqb (versionOf s) 5)) (λ y. omega arith)
+    (λ y. by-test Most (not (eqb (modeOf s) wanted)) (λ z. omega arith) (λ z. omega arith))))
+
+-- an event that brings no other number with it
+abbrev Known : Event → Type 0
+Known (Open timescale c) = Unit {0}
+Known Close = Unit {0}
+Known (Poll cookie interleaved room) = Unit {0}
+Known (Sent t1) = Unit {0}
+Known (Receive r) = r .refusal ≤ 12
+Known Look = Unit {0}
+
+abbrev ReplyMost : Reply × Place → Type 0
+ReplyMost w = w .0 .refusal ≤ 12
+
+place-most : (e : Event) (datagram : List ℕ) (p : Place) → Known e → ReplyMost (placeDo e datagram p)
+unfolding placeDo
+place-most (Open timescale c) datagram closed k = by-test ReplyMost (offered c) (λ x. omega arith) (λ x. omega arith)
+place-most (Open timescale c) datagram (opened o) k = by-test ReplyMost (offered c) (λ x. omega arith) (λ x. omega arith)
+place-most Close datagram closed k = omega arith
+place-most Close datagram (opened o) k = omega arith
+place-most (Poll cookie interleaved room) datagram closed k = omega arith
+place-most (Poll cookie interleaved room) datagram (opened o) k =
+    by-test ReplyMost (eqb (cookie .0) 0 || isLast (cookie .0) (o .last)) (λ x. omega arith)
+    (λ x. by-test ReplyMost (ltb room (pollLength (o .chunk))) (λ y. omega arith) (λ y. omega arith))
+place-most (Sent t1) datagram closed k = by-test ReplyMost (eqb t1 0) (λ x. omega arith) (λ x. omega arith)
+place-most (Sent t1) datagram (opened o) k =
+    by-test ReplyMost (eqb t1 0) (λ x. omega arith)
+    (λ x. by-request ReplyMost (o .outstanding) _ (omega arith) (λ q e. by-test ReplyMost (eqb (q .t1) 0) (λ y. omega arith) (λ y. omega arith)))
+place-most (Receive r) datagram closed k = by-test ReplyMost (eqb (r .t4) 0) (λ x. omega arith) (λ x. omega arith)
+place-most (Receive r) datagram (opened o) k =
+    by-test ReplyMost (eqb (r .t4) 0) (λ x. omega arith)
+    (λ x. by-test ReplyMost (not (eqb (r .refusal) 0)) (λ y. k)
+    (λ y. by-request ReplyMost (o .outstanding) _ (omega arith)
+    (λ q e. by-test ReplyMost (not (eqb (r .client .0) (q .client))) (λ z. omega arith)
+    (λ z. by-test ReplyMost (r .interleaved && eqb (q .server) 0) (λ u. omega arith) (λ u. omega arith)))))
+place-most Look datagram closed k = omega arith
+place-most Look datagram (opened o) k = omega arith
+
+-- ---- the octets
+
+-- an event's refusal is one of the page's, and leaves the octets
+record Kept (l : List ℕ) (w : Reply × List ℕ) : Type 0 where
+  kept : (w .0 .refusal ≡ 0 → ⊥) → w .1 ≡ l
+  most : w .0 .refusal ≤ 12
+
+kept-on : (e : Event) (datagram l : List ℕ) → Known e → Kept l (onOctets e datagram l)
+unfolding onOctets
+kept-on e datagram l k =
+    let most = place-most e datagram (decode l) k in
+    let a = placeDo e datagram (decode l) .0 in
+    by-test (Kept l) (eqb (length l) recordSize && inRange (headOf l))
+    (λ x. record {
+      kept = λ n. by-test (λ (m : List ℕ). m ≡ l) (eqb (a .refusal) 0) (λ z. absurd (n (eqb-true _ _ z))) (λ z. refl);
+      most = most;
+    })
+    (λ x. record { kept = λ n. refl; most = omega arith })
+
+-- a part put back where it was
+part-back : (a : ℕ) (t : List ℕ) → putPart a t (part a t) ≡ t
+part-back a t =
+    rw (← drop-drop recordSize (a * recordSize) t, take-append-drop recordSize (drop (a * recordSize) t), take-append-drop (a * recordSize) t)
+
+kept-at : (a : ℕ) (e : Event) (datagram t : List ℕ) → Known e → Kept t (atOctets a e datagram t)
+unfolding eventOn
+kept-at a e datagram t k =
+    let s = kept-on e datagram (part a t) k in
+    by-test (Kept t) (eqb (length t) tableSize && ltb a 16)
+    (λ x. record { kept = λ n. ap (putPart a t) (s .kept n) ∙ part-back a t; most = s .most })
+    (λ x. record { kept = λ n. refl; most = omega arith })
+
+-- ---- the answers
+
+-- what is answered of a reply: its refusal, and nothing else where that is not 0
+record Plainly (answer : Reply → Answer) (out : List ℕ) : Type 0 where
+  number : (r : Reply) → answer r .refusal ≡ r .refusal
+  plain : (r : Reply) → (r .refusal ≡ 0 → ⊥) → answer r ≡ plainAnswer (r .refusal) out
+
+number-of : (n : ℕ) (w : Answer) (out : List ℕ) → w .refusal ≡ 0 → cond (eqb n 0) w (plainAnswer n out) .refusal ≡ n
+number-of n w out z = by-test (λ (x : Answer). x .refusal ≡ n) (eqb n 0) (λ e. z ∙ sym (eqb-true n 0 e)) (λ e. refl)
+
+plain-of : (n : ℕ) (w : Answer) (out : List ℕ) → (n ≡ 0 → ⊥) → cond (eqb n 0) w (plainAnswer n out) ≡ plainAnswer n out
+plain-of n w out f = by-test (λ (x : Answer). x ≡ plainAnswer n out) (eqb n 0) (λ e. absurd (f (eqb-true n 0 e))) (λ e. refl)
+
+plainly-refusal : Plainly refusalAnswer []
+plainly-refusal = record { number = λ r. refl; plain = λ r n. refl }
+
+plainly-receive : Plainly receiveAnswer []
+plainly-receive = record { number = λ r. number-of (r .refusal) _ [] refl; plain = λ r n. plain-of (r .refusal) _ [] n }
+
+-- ---- the calls
+
+-- a refusal that is answered as it is
+plain-refused : (c : Call) (t : List ℕ) (n : ℕ) → (n ≡ 0 → ⊥) → n ≤ 12 → Refused c t (plainAnswer n (lent c), t)
+plain-refused c t n f h = record { table-kept = refl; zeros = refl; least = omega (arith, f); most = h }
+
+event-refused : (c : Call) (a : ℕ) (e : Event) (datagram : List ℕ) (answer : Reply → Answer) (t : List ℕ) → Known e → Plainly answer (lent c)
+    → (answer (atOctets a e datagram t .0) .refusal ≡ 0 → ⊥) → Refused c t (answer (atOctets a e datagram t .0), atOctets a e datagram t .1)
+event-refused c a e datagram answer t k s f =
+    let w = atOctets a e datagram t in
+    let i = kept-at a e datagram t k in
+    let n = s .number (w .0) in
+    let g : w .0 .refusal ≡ 0 → ⊥ = λ z. f (n ∙ z) in
+    let h = i .most in
+    record {
+      table-kept = i .kept g;
+      zeros = s .plain (w .0) g ∙ ap (λ (m : ℕ). plainAnswer m (lent c)) (sym n);
+      least = omega (arith, n, g);
+      most = omega (arith, n);
+    }
+
+-- of a call that only reads
+abbrev IfRefused : Call → List ℕ → Answer → Type 0
+IfRefused c t w = (w .refusal ≡ 0 → ⊥) → Refused c t (w, t)
+
+verdict-refused : (a : ℕ) (id t : List ℕ) (s : Seen) → s .refusal ≤ 12 → IfRefused (loopVerdict a id) t (verdictFor id s)
+verdict-refused a id t s h =
+    let P = IfRefused (loopVerdict a id) t in
+    by-test P (wrongId id) (λ x n. plain-refused _ t 6 n (omega arith))
+    (λ x. by-test P (eqb (s .refusal) 0) (λ y n. absurd (n refl)) (λ y n. plain-refused _ t (s .refusal) n h))
+
+-- whatever is seen of the associations
+publish-refused : (selected : ℕ) (id out t : List ℕ) (see : ℕ → Seen) → IfRefused (publish selected id out) t (publishFor selected id out see)
+publish-refused selected id out t see =
+    let P = IfRefused (publish selected id out) t in
+    by-test P (wrongId id || not (allSelected inRangeSeen see selected 16 0)) (λ x n. plain-refused _ t 6 n (omega arith))
+    (λ x. by-test P (not (allSelected completeSeen see selected 16 0)) (λ y n. plain-refused _ t 7 n (omega arith))
+    (λ y. by-test P (ltb (length out) 512) (λ z n. plain-refused _ t 11 n (omega arith)) (λ z n. absurd (n refl))))
+
+pub refusals : Refusals
+unfolding clearing publishing
+refusals clearTable t =
+    by-test (λ (w : Answer × List ℕ). (w .0 .refusal ≡ 0 → ⊥) → Refused clearTable t w) (eqb (length t) tableSize)
+    (λ x n. absurd (n refl)) (λ x n. plain-refused clearTable t 6 n (omega arith))
+refusals (openOne a timescale c) t = event-refused _ a _ [] refusalAnswer t tt plainly-refusal
+refusals (closeOne a) t = event-refused _ a _ [] refusalAnswer t tt plainly-refusal
+refusals (poll a cookie exponent interleaved out) t =
+    event-refused (poll a cookie exponent interleaved out) a _ [] (pollAnswer cookie exponent interleaved out) t tt
+    (record { number = λ r. number-of (r .refusal) _ out refl; plain = λ r n. plain-of (r .refusal) _ out n })
+refusals (sent a t1) t = event-refused _ a _ [] refusalAnswer t tt plainly-refusal
+refusals (receive a datagram t4) t =
+    event-refused _ a _ datagram receiveAnswer t (rw (response-sound datagram t4) (sound-most datagram 4)) plainly-receive
+refusals (loopVerdict a id) t = verdict-refused a id t (seenOctets t a) (kept-at a Look [] t tt .most)
+refusals (publish selected id out) t =
+    by-test (IfRefused (publish selected id out) t) (eqb (length t) tableSize)
+    (λ x. publish-refused selected id out t (seenOctets t)) (λ x n. plain-refused _ t 6 n (omega arith))
