@@ -87,14 +87,14 @@ idle-rejected =
     }
 
 -- a client whose answers and table do not turn on the table
-still : Independent 16 names refusesAll Typed (λ t. Unit {0})
-still = record { invariant = λ c t ty g. tt; commute = λ x y t n tx ty g. record { first = refl; second = refl; end = refl } }
+unchanging : Independent 16 names refusesAll Typed (λ t. Unit {0})
+unchanging = record { invariant = λ c t ty g. tt; commute = λ x y t n tx ty g. record { first = refl; second = refl; end = refl } }
 
 pub holds-of-refusing : HoldsOfRefusing
 holds-of-refusing = record {
   reordered = λ t e cs ty d. record {
-    answers-kept = λ ds o tag. reordered-answers still o d ty t tt tag;
-    ends-kept = λ ds o. reordered-end still o d ty t tt;
+    answers-kept = λ ds o tag. reordered-answers unchanging o d ty t tt tag;
+    ends-kept = λ ds o. reordered-end unchanging o d ty t tt;
   };
   refusals = λ c t n. record { table-kept = refl; zeros = refl; least = omega arith; most = omega arith };
   publications = λ t e cs ty selected id out h z. absurd (omega arith);
