@@ -2,17 +2,17 @@
 use mathlib.Core.Path.{_≡_, refl}
 use mathlib.Core.Bool.{false}
 use mathlib.Core.List.{List, [], _∷_, _++_}
-use Prim.Native.Nat.{ℕ, _<_}
+use Prim.Native.Nat.{ℕ}
 use native.Mathlib.Omega.{arith}
 use lib.IntN.{pos}
 use lib.ListN.{length, replicate}
 use Rattle.octets.specs.Number.{Octets, num}
-use Rattle.octets.proofs.Written.{zeros-octets, allSmall, small-octets}
+use Rattle.octets.proofs.Written.{zeros-octets, small-octets}
 use Rattle.header.specs.Header.{headerOf, refusal}
 use Rattle.chain.specs.Chain.{allZero, stepAt, walkFor, walk, chainRefusal, soundRefusal}
 use Rattle.state.specs.Plain.{newlyOpened, polled, placeDo}
 use Rattle.order.specs.Order.{TaggedCall, after, EveryCall}
-use Rattle.client_rules.specs.Call.{Call, openOne, poll, receive, Typed}
+use Rattle.client_rules.specs.Call.{Call, openOne, poll, Typed}
 use Rattle.client_rules.specs.Step.{eventOn}
 use Rattle.client_rules.specs.Octets.{tableSize, encodeAll}
 use Rattle.client_rules.specs.Plain.{closedTable}

@@ -3,7 +3,7 @@ use mathlib.Core.Path.{_≡_, refl, sym, ap, _∙_}
 use mathlib.Core.List.{List, [], _∷_}
 use Prim.Native.Nat.{ℕ}
 use native.Mathlib.Omega.{arith}
-use lib.ListN.{length, getD}
+use lib.ListN.{getD}
 use Rattle.octets.proofs.Written.{zeros-octets}
 use Rattle.state.specs.Plain.{Place, closed, opened, newlyOpened, placeDo}
 use Rattle.order.specs.Order.{TaggedCall, after, Independent}
