@@ -49,7 +49,7 @@ class Contracts(unittest.TestCase):
             (CLEAR, RIGHT),
             ("pub fn size() -> usize", "λ r. ⌜ r ≡ sizeOf ⌝"),
             ("pub fn low(s: &[u8]) -> u8", "λ r. ⌜ r ≡ base (now (s .entry)) .0 ⌝"),
-            ('pub extern "C" fn put(s: &mut [u8], v: u8)', "λ _. ⌜ now (s .exit) ≡ twice (record { v = v; s = now (s .entry); }) ⌝"),
+            ('pub extern "C" fn put(s: &mut [u8], v: u8)', "λ _. ⌜ now (s .exit) ≡ twice (record { v = v; old = now (s .entry) }) ⌝"),
             ("pub fn mode(b: bool) -> Mode", "λ r. ⌜ twice r ≡ b ⌝"),
             ("pub fn step(self, n: u8) -> u8", "λ r. ⌜ r ≡ (twice (self .at) n) ⌝"),
         ):
@@ -88,7 +88,8 @@ class Contracts(unittest.TestCase):
     def test_exit_lost(self):
         self.refused("what is left of `store`", CLEAR, RIGHT.replace(".exit", ".entry"))
         self.refused("what is left of `store`", CLEAR, RIGHT.replace("now (store .exit)", "(store .exit)"))
-        self.refused("what is left of `b`", "pub fn f<'a>(a: &mut [u8], b: &'a mut [u8])", "λ _. ⌜ now (a .exit) ≡ base (now (b .entry)) ⌝")
+        both = "pub fn f<'a>(a: &mut [u8], b: &'a mut [u8])"
+        self.refused("what is left of `b`", both, "λ _. ⌜ now (a .exit) ≡ base (now (b .entry)) ⌝")
 
     def test_parameter_lost(self):
         self.refused("parameter `max_len`", CLEAR, RIGHT.replace("«max_len»", "8"))
@@ -96,14 +97,14 @@ class Contracts(unittest.TestCase):
         self.refused("parameter `b`", "pub fn f(a: [u8; 4], b: u8) -> u8", "λ r. ⌜ r ≡ twice (record { b = a }) ⌝")
 
     def test_no_definition(self):
-        for ensures in ("λ r. ⌜ r ≡ x ⌝", "λ r. ⌜ r ≡ other x ⌝", "λ r. ⌜ r ≡ lost x ⌝", "λ r. ⌜ r ≡ 1 + twice x ⌝", "λ r. ⌜ (r, 0) ≡ (twice x, 0) ⌝"):
-            self.refused("none is a definition", "pub fn f(x: u8) -> u8", ensures)
+        for sides in ("r ≡ x", "r ≡ other x", "r ≡ lost x", "r ≡ 1 + twice x", "(r, 0) ≡ (twice x, 0)"):
+            self.refused("none is a definition", "pub fn f(x: u8) -> u8", f"λ r. ⌜ {sides} ⌝")
         self.refused("none is a definition", "pub fn f(twice: u8) -> u8", "λ r. ⌜ r ≡ twice ⌝")
         self.refused("none is a definition", "pub fn f(x: u8) -> u8", "λ r. ⌜ r ≡ twice x ⌝", USES.replace("own·specs", "below·specs"))
         self.refused("none is a definition", "pub fn f(x: u8) -> u8", "λ r. ⌜ r ≡ twice x ⌝", USES + "ghost use lib.Two.{twice};\n")
 
     def test_definitions(self):
-        text = "abbrev pub f : ℕ → ℕ\nf n = n\n\nprivate : ℕ\n\npub record R : Type 0 where\n  pub g : ℕ\n\npub data D : Type 0 where\n  c : D\n"
+        text = "abbrev pub f : ℕ → ℕ\nf n = n\n\nown : ℕ\n\npub record R : Type 0 where\n  pub g : ℕ\n\npub data D : Type 0 where\n  c : D\n"
         self.assertEqual(contracts.defined(text), {"f"})
 
     def test_exemptions(self):
@@ -175,21 +176,23 @@ class Claims(unittest.TestCase):
         self.assertEqual(claim_faults(page, proofs=both), (1, []))
 
     def test_claim_is_closed(self):
-        for wrong in ("abbrev pub Once : ℕ → Type 0", "abbrev pub Once {ℓ} : Type 0", "pub Once : Type 0", "abbrev pub Once : Type 0\n  → Type 0",
-                      "pub record Once (n : ℕ) : Type 0 where", "-- abbrev pub Once : Type 0", "{-\nabbrev pub Once : Type 0\n-}"):
+        for wrong in ("abbrev pub Once : ℕ → Type 0", "abbrev pub Once {ℓ} : Type 0", "pub Once : Type 0",
+                      "abbrev pub Once : Type 0\n  → Type 0", "pub record Once (n : ℕ) : Type 0 where",
+                      "-- abbrev pub Once : Type 0", "{-\nabbrev pub Once : Type 0\n-}"):
             self.refused("as a closed type", specs=SPECS.replace("abbrev pub Once : Type 0", wrong))
         self.refused("as a closed type", specs="module _ (n : ℕ) where\n  " + SPECS.replace("\n", "\n  "))
 
     def test_proof_has_the_type_alone(self):
-        for wrong in ("pub once-only : (n : ℕ) → Once", "pub once-only : Once → Once", "pub once-only : With 0", "pub once-only : Once n",
-                      "pub once-only : Once\n    → Once", "pub once-only :\n    ℕ → Once", "pub once-only {ℓ} : Once", "once-only : Once",
-                      "axiom pub once-only : Once", "abbrev pub once-only : Once", "-- pub once-only : Once", "{- pub once-only : Once -}",
+        for wrong in ("pub once-only : (n : ℕ) → Once", "pub once-only : Once → Once", "pub once-only : With 0",
+                      "pub once-only : Once n", "pub once-only : Once\n    → Once", "pub once-only :\n    ℕ → Once",
+                      "pub once-only {ℓ} : Once", "once-only : Once", "axiom pub once-only : Once",
+                      "abbrev pub once-only : Once", "-- pub once-only : Once", "{- pub once-only : Once -}",
                       "  pub once-only : Once", "pub once-only : Once\npub once-only : Once", "pub once : Once"):
             self.refused("and nothing more", proofs=PROOFS.replace("pub once-only : Once", wrong))
 
     def test_block_has_hypotheses(self):
-        indented = PROOFS.replace("\npub once-only", "\n  pub once-only").replace("\nunfolding", "\n  unfolding").replace("\nonce-only n", "\n  once-only n")
-        self.refused("and nothing more", proofs=indented)
+        use, block = PROOFS.split("\n-- the proof")
+        self.refused("and nothing more", proofs=f"{use}\nmodule _ (h : ⊥) where" + block.replace("\n", "\n  "))
         self.refused("not indented", proofs=PROOFS.replace("\npub once-only", "\nmodule _ (h : ⊥) where\npub once-only"))
 
     def test_name_means_the_claim(self):
@@ -223,5 +226,16 @@ class Claims(unittest.TestCase):
         self.refused("no closed type", page=PAGE + "| `own/specs/Rules.antt:Gone` | A type. |\n")
 
 
+def main():
+    """Says how many tests passed: none is no success either."""
+    told = io.StringIO()
+    result = unittest.TextTestRunner(stream=told).run(unittest.defaultTestLoader.loadTestsFromModule(sys.modules[__name__]))
+    if not result.wasSuccessful() or result.skipped or not result.testsRun:
+        print(told.getvalue())
+        return 1
+    print(f"tools_test: {result.testsRun} tests of the checks passed")
+    return 0
+
+
 if __name__ == "__main__":
-    unittest.main()
+    sys.exit(main())
