@@ -97,7 +97,7 @@ class Contracts(unittest.TestCase):
         self.refused("parameter `b`", "pub fn f(a: [u8; 4], b: u8) -> u8", "λ r. ⌜ r ≡ twice (record { b = a }) ⌝")
 
     def test_no_definition(self):
-        for sides in ("r ≡ x", "r ≡ other x", "r ≡ lost x", "r ≡ 1 + twice x", "(r, 0) ≡ (twice x, 0)"):
+        for sides in ("r ≡ x", "r ≡ other x", "r ≡ lost x", "r ≡ 1 + twice x", "r ≡ () x", "(r, 0) ≡ (twice x, 0)"):
             self.refused("none is a definition", "pub fn f(x: u8) -> u8", f"λ r. ⌜ {sides} ⌝")
         self.refused("none is a definition", "pub fn f(twice: u8) -> u8", "λ r. ⌜ r ≡ twice ⌝")
         self.refused("none is a definition", "pub fn f(x: u8) -> u8", "λ r. ⌜ r ≡ twice x ⌝", USES.replace("own·specs", "below·specs"))
@@ -141,7 +141,7 @@ module _ (n : ℕ) where
 pub once-only : Once
 unfolding Once
   With
-once-only n = record {
+once-only (n) = let k : ℕ = n in record {
   left = refl;
 }
 """

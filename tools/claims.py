@@ -76,7 +76,8 @@ def is_claim(declared):
 
 def made(text, name):
     """The lines, at any column, that declare a name."""
-    marked = rf"\s*(?:(?:unfoldable|abbrev|axiom|pub) )*(?:(?:record|data) )?{re.escape(name)}(?: [({{].*)? :(?:\s|$)"
+    word = re.escape(name)
+    marked = rf"\s*(?:(?:unfoldable|abbrev|axiom|pub) )*(?:{word}(?: \{{[^}}=]*\}})?|(?:record|data) {word}(?: .*)?) :(?:\s|$)"
     return [line for line in antt_text.without_comments(text).split("\n") if re.match(marked, line)]
 
 

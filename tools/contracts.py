@@ -86,10 +86,10 @@ def tokens(text):
     return [spelled(token) if token.startswith("«") else token for token in found]
 
 
-def tree(flat):
+def tree(said):
     """The tokens with a list for what stands in brackets, brackets included."""
     stack = [[]]
-    for token in flat:
+    for token in said:
         if token in "({":
             stack.append([token])
         elif token in ")}" and len(stack) > 1:
@@ -108,7 +108,7 @@ def flat(term):
 
 def unwrapped(term):
     """A term without the brackets around all of it. A tuple keeps them."""
-    while len(term) == 1 and isinstance(term[0], list) and term[0][0] == "(" and "," not in term[0]:
+    while len(term) == 1 and isinstance(term[0], list) and term[0][0] == "(" and len(term[0]) > 2 and "," not in term[0]:
         term = term[0][1:-1]
     return term
 
