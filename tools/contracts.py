@@ -57,9 +57,6 @@ EXEMPT = {
     "records/src/lib.rt:time": ({headed("r", "getD")}, "an element of a list that a definition of specs/ gives"),
     "rows/src/lib.rt:call_of": ({unnamed("number")}, "the line's number is only printed, beside a problem"),
     "text/src/lib.rt:rest": ({headed("now", "drop")}, KIT),
-    "words/src/line.rt:u16_at": ({headed("r", "%")}, "a definition of specs/ modulo the type's size"),
-    "words/src/line.rt:u32_at": ({headed("r", "%")}, "a definition of specs/ modulo the type's size"),
-    "words/src/line.rt:u8_at": ({headed("r", "%")}, "a definition of specs/ modulo the type's size"),
     "words/src/octet_word.rt:octets_of": ({not_left("buffer")}, "the buffer is lent on in the result, and has no value at exit"),
 }
 
