@@ -1,17 +1,20 @@
 -- The idle programs are rejected, each by the smallest exchange that shows it. Assumes nothing.
 use mathlib.Core.Path.{_≡_, refl, sym, ap, _∙_}
+use mathlib.Core.Bool.{true}
 use mathlib.Core.List.{List, [], _∷_}
 use Prim.Native.Nat.{ℕ}
 use native.Mathlib.Omega.{arith}
 use lib.ListN.{getD}
+use Rattle.octets.specs.Among.{among}
 use Rattle.octets.proofs.Written.{zeros-octets}
 use Rattle.state.specs.Plain.{Place, closed, opened, newlyOpened, placeDo}
 use Rattle.order.specs.Order.{TaggedCall, after, Independent}
 use Rattle.order.proofs.Reorder.{reordered-answers, reordered-end}
-use Rattle.client_rules.specs.Call.{Call, openOne, receive, Typed, Answer, names}
+use Rattle.client_rules.specs.Call.{Call, clearTable, openOne, closeOne, poll, sent, receive, loopVerdict, publish, Typed, Answer, names}
 use Rattle.client_rules.specs.Step.{eventOn}
 use Rattle.client_rules.specs.Plain.{closedTable, stepPlain}
 use Rattle.client_rules.specs.Claim.{Client, clearedBy, reachedBy, refusalBy, Demand2For, NothingLostFor, FirstPollFor}
+use Rattle.client_rules.specs.Refused.{refusalsOf}
 use Rattle.client_rules.specs.Idle.{refusesAll, doesNothing, RefusesAll, StoresNothing, WritesNothing, IdleRejected, HoldsOfRefusing, OursAlone}
 use Rattle.client_rules.proofs.Exchange.{zeros, size, datagram, datagram-octets, room, tagged, asking, asking-typed, acceptable, not-yet}
 use Rattle.client_rules.proofs.Demand3.{demand3}
@@ -90,13 +93,24 @@ idle-rejected =
 unchanging : Independent 16 names refusesAll Typed (λ t. Unit {0})
 unchanging = record { invariant = λ c t ty g. tt; commute = λ x y t n tx ty g. record { first = refl; second = refl; end = refl } }
 
+-- 6 concerns every call
+six : (c : Call) → among 6 (refusalsOf c) ≡ true
+six clearTable = refl
+six (openOne a timescale c) = refl
+six (closeOne a) = refl
+six (poll a cookie exponent interleaved out) = refl
+six (sent a t1) = refl
+six (receive a datagram t4) = refl
+six (loopVerdict a id) = refl
+six (publish selected id out) = refl
+
 pub holds-of-refusing : HoldsOfRefusing
 holds-of-refusing = record {
   reordered = λ t e cs ty d. record {
     answers-kept = λ ds o tag. reordered-answers unchanging o d ty t tt tag;
     ends-kept = λ ds o. reordered-end unchanging o d ty t tt;
   };
-  refusals = λ c t n. record { table-kept = refl; zeros = refl; least = omega arith; most = omega arith };
+  refusals = λ c t n. record { table-kept = refl; zeros = refl; number = six c };
   publications = λ t e cs ty selected id out h z. absurd (omega arith);
 }
 

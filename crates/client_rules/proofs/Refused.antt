@@ -1,13 +1,14 @@
 -- A refusal changes nothing, on any octets lent. Assumes nothing.
 use mathlib.Core.Path.{_≡_, refl, sym, ap, _∙_}
-use mathlib.Core.Bool.{cond, not, _&&_, _||_}
-use mathlib.Core.List.{List, []}
-use Prim.Native.Nat.{ℕ, _*_, _≤_}
+use mathlib.Core.Bool.{true, false, cond, not, _&&_, _||_}
+use mathlib.Core.List.{List, [], _∷_}
+use Prim.Native.Nat.{ℕ, zero, suc, _*_, _≤_}
 use native.Mathlib.Omega.{arith}
-use borrow.Author.Tests.{eqb-true}
+use borrow.Author.Tests.{eqb-true, ne-eqb}
 use lib.Dec.{eqb, ltb}
 use lib.ListN.{length, drop, take-append-drop}
 use lib.Seq.{drop-drop}
+use Rattle.octets.specs.Among.{among}
 use Rattle.header.specs.Header.{wrongLength, versionOf, modeOf, refusal}
 use Rattle.chain.specs.Chain.{stepRefusal, walk, chainRefusal, soundRefusal}
 use Rattle.chain.specs.declared.cursor.Step.{Step}
@@ -29,21 +30,20 @@ use Rattle.client_rules.specs.Call.{Call, clearTable, openOne, closeOne,
 use Rattle.client_rules.specs.Select.{Seen, wrongId, allSelected, inRangeSeen, completeSeen, verdictFor, publishFor}
 use Rattle.client_rules.specs.Step.{eventOn, clearing, publishing}
 use Rattle.client_rules.specs.Octets.{tableSize, part, putPart, atOctets, seenOctets}
-use Rattle.client_rules.specs.Refused.{lent, Refused, Refusals}
+use Rattle.client_rules.specs.Refused.{lent, refusalsOf, Refused, Refusals}
 
 -- ---- the numbers
 
-step-most : (s : Step) → stepRefusal s ≤ 12
+step-most : (s : Step) → stepRefusal s ≤ 5
 step-most (Found f c) = omega arith
 step-most WrongLength = omega arith
 step-most WrongPadding = omega arith
 step-most End = omega arith
 
 abbrev Most : ℕ → Type 0
-Most n = n ≤ 12
+Most n = n ≤ 5
 
--- a datagram's refusal is one of the page's
-sound-most : (s : List ℕ) (wanted : ℕ) → soundRefusal s wanted ≤ 12
+sound-most : (s : List ℕ) (wanted : ℕ) → soundRefusal s wanted ≤ 5
 unfolding soundRefusal chainRefusal refusal
 sound-most s wanted =
     by-test Most (eqb (refusal s wanted) 0) (λ e. step-most (walk (drop 48 s) 0 .stop))
@@ -51,73 +51,96 @@ sound-most s wanted =
     (λ x. by-test Most (not (eqb (versionOf s) 5)) (λ y. omega arith)
     (λ y. by-test Most (not (eqb (modeOf s) wanted)) (λ z. omega arith) (λ z. omega arith))))
 
+-- the refusals that concern an event, but 6
+abbrev laterOf : Event → List ℕ
+laterOf (Open timescale c) = 7 ∷ []
+laterOf Close = 7 ∷ []
+laterOf (Poll cookie interleaved room) = 7 ∷ 8 ∷ 11 ∷ []
+laterOf (Sent t1) = 7 ∷ []
+laterOf (Receive r) = 7 ∷ 1 ∷ 2 ∷ 3 ∷ 4 ∷ 5 ∷ 9 ∷ 10 ∷ []
+laterOf Look = 7 ∷ []
+
+-- a datagram's refusal is among those of a response
+low-among : (n : ℕ) → n ≤ 5 → among n (0 ∷ 6 ∷ 7 ∷ 1 ∷ 2 ∷ 3 ∷ 4 ∷ 5 ∷ 9 ∷ 10 ∷ []) ≡ true
+low-among zero h = refl
+low-among (suc zero) h = refl
+low-among (suc (suc zero)) h = refl
+low-among (suc (suc (suc zero))) h = refl
+low-among (suc (suc (suc (suc zero)))) h = refl
+low-among (suc (suc (suc (suc (suc zero))))) h = refl
+low-among (suc (suc (suc (suc (suc (suc n)))))) h = absurd (omega arith)
+
 -- an event that brings no other number with it
 abbrev Known : Event → Type 0
 Known (Open timescale c) = Unit {0}
 Known Close = Unit {0}
 Known (Poll cookie interleaved room) = Unit {0}
 Known (Sent t1) = Unit {0}
-Known (Receive r) = r .refusal ≤ 12
+Known (Receive r) = r .refusal ≤ 5
 Known Look = Unit {0}
 
-abbrev ReplyMost : Reply × Place → Type 0
-ReplyMost w = w .0 .refusal ≤ 12
+-- success, or one of the refusals that concern it
+abbrev Answers : Event → Reply × Place → Type 0
+Answers e w = among (w .0 .refusal) (0 ∷ 6 ∷ laterOf e) ≡ true
 
-place-most : (e : Event) (datagram : List ℕ) (p : Place) → Known e → ReplyMost (placeDo e datagram p)
+place-answers : (e : Event) (datagram : List ℕ) (p : Place) → Known e → Answers e (placeDo e datagram p)
 unfolding placeDo
-place-most (Open timescale c) datagram closed k = by-test ReplyMost (offered c) (λ x. omega arith) (λ x. omega arith)
-place-most (Open timescale c) datagram (opened o) k = by-test ReplyMost (offered c) (λ x. omega arith) (λ x. omega arith)
-place-most Close datagram closed k = omega arith
-place-most Close datagram (opened o) k = omega arith
-place-most (Poll cookie interleaved room) datagram closed k = omega arith
-place-most (Poll cookie interleaved room) datagram (opened o) k =
-    by-test ReplyMost (eqb (cookie .0) 0 || isLast (cookie .0) (o .last)) (λ x. omega arith)
-    (λ x. by-test ReplyMost (ltb room (pollLength (o .chunk))) (λ y. omega arith) (λ y. omega arith))
-place-most (Sent t1) datagram closed k = by-test ReplyMost (eqb t1 0) (λ x. omega arith) (λ x. omega arith)
-place-most (Sent t1) datagram (opened o) k =
-    by-test ReplyMost (eqb t1 0) (λ x. omega arith)
-    (λ x. by-request ReplyMost (o .outstanding) _ (omega arith) (λ q e. by-test ReplyMost (eqb (q .t1) 0) (λ y. omega arith) (λ y. omega arith)))
-place-most (Receive r) datagram closed k = by-test ReplyMost (eqb (r .t4) 0) (λ x. omega arith) (λ x. omega arith)
-place-most (Receive r) datagram (opened o) k =
-    by-test ReplyMost (eqb (r .t4) 0) (λ x. omega arith)
-    (λ x. by-test ReplyMost (not (eqb (r .refusal) 0)) (λ y. k)
-    (λ y. by-request ReplyMost (o .outstanding) _ (omega arith)
-    (λ q e. by-test ReplyMost (not (eqb (r .client .0) (q .client))) (λ z. omega arith)
-    (λ z. by-test ReplyMost (r .interleaved && eqb (q .server) 0) (λ u. omega arith) (λ u. omega arith)))))
-place-most Look datagram closed k = omega arith
-place-most Look datagram (opened o) k = omega arith
+place-answers (Open timescale c) datagram closed k = by-test (Answers (Open timescale c)) (offered c) (λ x. refl) (λ x. refl)
+place-answers (Open timescale c) datagram (opened o) k = by-test (Answers (Open timescale c)) (offered c) (λ x. refl) (λ x. refl)
+place-answers Close datagram closed k = refl
+place-answers Close datagram (opened o) k = refl
+place-answers (Poll cookie interleaved room) datagram closed k = refl
+place-answers (Poll cookie interleaved room) datagram (opened o) k =
+    by-test (Answers (Poll cookie interleaved room)) (eqb (cookie .0) 0 || isLast (cookie .0) (o .last)) (λ x. refl)
+    (λ x. by-test (Answers (Poll cookie interleaved room)) (ltb room (pollLength (o .chunk))) (λ y. refl) (λ y. refl))
+place-answers (Sent t1) datagram closed k = by-test (Answers (Sent t1)) (eqb t1 0) (λ x. refl) (λ x. refl)
+place-answers (Sent t1) datagram (opened o) k =
+    by-test (Answers (Sent t1)) (eqb t1 0) (λ x. refl)
+    (λ x. by-request (Answers (Sent t1)) (o .outstanding) _ refl (λ q e. by-test (Answers (Sent t1)) (eqb (q .t1) 0) (λ y. refl) (λ y. refl)))
+place-answers (Receive r) datagram closed k = by-test (Answers (Receive r)) (eqb (r .t4) 0) (λ x. refl) (λ x. refl)
+place-answers (Receive r) datagram (opened o) k =
+    by-test (Answers (Receive r)) (eqb (r .t4) 0) (λ x. refl)
+    (λ x. by-test (Answers (Receive r)) (not (eqb (r .refusal) 0)) (λ y. low-among (r .refusal) k)
+    (λ y. by-request (Answers (Receive r)) (o .outstanding) _ refl
+    (λ q e. by-test (Answers (Receive r)) (not (eqb (r .client .0) (q .client))) (λ z. refl)
+    (λ z. by-test (Answers (Receive r)) (r .interleaved && eqb (q .server) 0) (λ u. refl) (λ u. refl)))))
+place-answers Look datagram closed k = refl
+place-answers Look datagram (opened o) k = refl
+
+-- a refusal is not success
+not-success : (n : ℕ) (ns : List ℕ) → (n ≡ 0 → ⊥) → among n (0 ∷ ns) ≡ true → among n ns ≡ true
+not-success n ns f h = let z : eqb n 0 ≡ false = ne-eqb n 0 f in rw z at h
 
 -- ---- the octets
 
--- an event's refusal is one of the page's, and leaves the octets
-record Kept (l : List ℕ) (w : Reply × List ℕ) : Type 0 where
+-- an event's refusal is one of those that concern it, and leaves the octets
+record Kept (later l : List ℕ) (w : Reply × List ℕ) : Type 0 where
   kept : (w .0 .refusal ≡ 0 → ⊥) → w .1 ≡ l
-  most : w .0 .refusal ≤ 12
+  number : among (w .0 .refusal) (0 ∷ 6 ∷ later) ≡ true
 
-kept-on : (e : Event) (datagram l : List ℕ) → Known e → Kept l (onOctets e datagram l)
+kept-on : (e : Event) (datagram l : List ℕ) → Known e → Kept (laterOf e) l (onOctets e datagram l)
 unfolding onOctets
 kept-on e datagram l k =
-    let most = place-most e datagram (decode l) k in
     let a = placeDo e datagram (decode l) .0 in
-    by-test (Kept l) (eqb (length l) recordSize && inRange (headOf l))
+    by-test (Kept (laterOf e) l) (eqb (length l) recordSize && inRange (headOf l))
     (λ x. record {
       kept = λ n. by-test (λ (m : List ℕ). m ≡ l) (eqb (a .refusal) 0) (λ z. absurd (n (eqb-true _ _ z))) (λ z. refl);
-      most = most;
+      number = place-answers e datagram (decode l) k;
     })
-    (λ x. record { kept = λ n. refl; most = omega arith })
+    (λ x. record { kept = λ n. refl; number = refl })
 
 -- a part put back where it was
 part-back : (a : ℕ) (t : List ℕ) → putPart a t (part a t) ≡ t
 part-back a t =
     rw (← drop-drop recordSize (a * recordSize) t, take-append-drop recordSize (drop (a * recordSize) t), take-append-drop (a * recordSize) t)
 
-kept-at : (a : ℕ) (e : Event) (datagram t : List ℕ) → Known e → Kept t (atOctets a e datagram t)
+kept-at : (a : ℕ) (e : Event) (datagram t : List ℕ) → Known e → Kept (laterOf e) t (atOctets a e datagram t)
 unfolding eventOn
 kept-at a e datagram t k =
     let s = kept-on e datagram (part a t) k in
-    by-test (Kept t) (eqb (length t) tableSize && ltb a 16)
-    (λ x. record { kept = λ n. ap (putPart a t) (s .kept n) ∙ part-back a t; most = s .most })
-    (λ x. record { kept = λ n. refl; most = omega arith })
+    by-test (Kept (laterOf e) t) (eqb (length t) tableSize && ltb a 16)
+    (λ x. record { kept = λ n. ap (putPart a t) (s .kept n) ∙ part-back a t; number = s .number })
+    (λ x. record { kept = λ n. refl; number = refl })
 
 -- ---- the answers
 
@@ -141,56 +164,54 @@ plainly-receive = record { number = λ r. number-of (r .refusal) _ [] refl; plai
 -- ---- the calls
 
 -- a refusal that is answered as it is
-plain-refused : (c : Call) (t : List ℕ) (n : ℕ) → (n ≡ 0 → ⊥) → n ≤ 12 → Refused c t (plainAnswer n (lent c), t)
-plain-refused c t n f h = record { table-kept = refl; zeros = refl; least = omega (arith, f); most = h }
+plain-refused : (c : Call) (t : List ℕ) (n : ℕ) → among n (refusalsOf c) ≡ true → Refused c t (plainAnswer n (lent c), t)
+plain-refused c t n h = record { table-kept = refl; zeros = refl; number = h }
 
-event-refused : (c : Call) (a : ℕ) (e : Event) (datagram : List ℕ) (answer : Reply → Answer) (t : List ℕ) → Known e → Plainly answer (lent c)
+event-refused : (c : Call) (a : ℕ) (e : Event) (datagram : List ℕ) (answer : Reply → Answer) (t : List ℕ) → Known e → refusalsOf c ≡ 6 ∷ laterOf e → Plainly answer (lent c)
     → (answer (atOctets a e datagram t .0) .refusal ≡ 0 → ⊥) → Refused c t (answer (atOctets a e datagram t .0), atOctets a e datagram t .1)
-event-refused c a e datagram answer t k s f =
+event-refused c a e datagram answer t k r s f =
     let w = atOctets a e datagram t in
     let i = kept-at a e datagram t k in
     let n = s .number (w .0) in
     let g : w .0 .refusal ≡ 0 → ⊥ = λ z. f (n ∙ z) in
-    let h = i .most in
     record {
       table-kept = i .kept g;
       zeros = s .plain (w .0) g ∙ ap (λ (m : ℕ). plainAnswer m (lent c)) (sym n);
-      least = omega (arith, n, g);
-      most = omega (arith, n);
+      number = rw (n, r) (not-success (w .0 .refusal) (6 ∷ laterOf e) g (i .number));
     }
 
 -- of a call that only reads
 abbrev IfRefused : Call → List ℕ → Answer → Type 0
 IfRefused c t w = (w .refusal ≡ 0 → ⊥) → Refused c t (w, t)
 
-verdict-refused : (a : ℕ) (id t : List ℕ) (s : Seen) → s .refusal ≤ 12 → IfRefused (loopVerdict a id) t (verdictFor id s)
+verdict-refused : (a : ℕ) (id t : List ℕ) (s : Seen) → among (s .refusal) (0 ∷ 6 ∷ 7 ∷ []) ≡ true → IfRefused (loopVerdict a id) t (verdictFor id s)
 verdict-refused a id t s h =
     let P = IfRefused (loopVerdict a id) t in
-    by-test P (wrongId id) (λ x n. plain-refused _ t 6 n (omega arith))
-    (λ x. by-test P (eqb (s .refusal) 0) (λ y n. absurd (n refl)) (λ y n. plain-refused _ t (s .refusal) n h))
+    by-test P (wrongId id) (λ x n. plain-refused _ t 6 refl)
+    (λ x. by-test P (eqb (s .refusal) 0) (λ y n. absurd (n refl)) (λ y n. plain-refused _ t (s .refusal) (not-success (s .refusal) (6 ∷ 7 ∷ []) n h)))
 
 -- whatever is seen of the associations
 publish-refused : (selected : ℕ) (id out t : List ℕ) (see : ℕ → Seen) → IfRefused (publish selected id out) t (publishFor selected id out see)
 publish-refused selected id out t see =
     let P = IfRefused (publish selected id out) t in
-    by-test P (wrongId id || not (allSelected inRangeSeen see selected 16 0)) (λ x n. plain-refused _ t 6 n (omega arith))
-    (λ x. by-test P (not (allSelected completeSeen see selected 16 0)) (λ y n. plain-refused _ t 7 n (omega arith))
-    (λ y. by-test P (ltb (length out) 512) (λ z n. plain-refused _ t 11 n (omega arith)) (λ z n. absurd (n refl))))
+    by-test P (wrongId id || not (allSelected inRangeSeen see selected 16 0)) (λ x n. plain-refused _ t 6 refl)
+    (λ x. by-test P (not (allSelected completeSeen see selected 16 0)) (λ y n. plain-refused _ t 7 refl)
+    (λ y. by-test P (ltb (length out) 512) (λ z n. plain-refused _ t 11 refl) (λ z n. absurd (n refl))))
 
 pub refusals : Refusals
 unfolding clearing publishing
 refusals clearTable t =
     by-test (λ (w : Answer × List ℕ). (w .0 .refusal ≡ 0 → ⊥) → Refused clearTable t w) (eqb (length t) tableSize)
-    (λ x n. absurd (n refl)) (λ x n. plain-refused clearTable t 6 n (omega arith))
-refusals (openOne a timescale c) t = event-refused _ a _ [] refusalAnswer t tt plainly-refusal
-refusals (closeOne a) t = event-refused _ a _ [] refusalAnswer t tt plainly-refusal
+    (λ x n. absurd (n refl)) (λ x n. plain-refused clearTable t 6 refl)
+refusals (openOne a timescale c) t = event-refused _ a _ [] refusalAnswer t tt refl plainly-refusal
+refusals (closeOne a) t = event-refused _ a _ [] refusalAnswer t tt refl plainly-refusal
 refusals (poll a cookie exponent interleaved out) t =
-    event-refused (poll a cookie exponent interleaved out) a _ [] (pollAnswer cookie exponent interleaved out) t tt
+    event-refused (poll a cookie exponent interleaved out) a _ [] (pollAnswer cookie exponent interleaved out) t tt refl
     (record { number = λ r. number-of (r .refusal) _ out refl; plain = λ r n. plain-of (r .refusal) _ out n })
-refusals (sent a t1) t = event-refused _ a _ [] refusalAnswer t tt plainly-refusal
+refusals (sent a t1) t = event-refused _ a _ [] refusalAnswer t tt refl plainly-refusal
 refusals (receive a datagram t4) t =
-    event-refused _ a _ datagram receiveAnswer t (rw (response-sound datagram t4) (sound-most datagram 4)) plainly-receive
-refusals (loopVerdict a id) t = verdict-refused a id t (seenOctets t a) (kept-at a Look [] t tt .most)
+    event-refused _ a _ datagram receiveAnswer t (rw (response-sound datagram t4) (sound-most datagram 4)) refl plainly-receive
+refusals (loopVerdict a id) t = verdict-refused a id t (seenOctets t a) (kept-at a Look [] t tt .number)
 refusals (publish selected id out) t =
     by-test (IfRefused (publish selected id out) t) (eqb (length t) tableSize)
-    (λ x. publish-refused selected id out t (seenOctets t)) (λ x n. plain-refused _ t 6 n (omega arith))
+    (λ x. publish-refused selected id out t (seenOctets t)) (λ x n. plain-refused _ t 6 refl)
