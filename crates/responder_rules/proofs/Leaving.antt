@@ -108,9 +108,9 @@ module _ {s : List ℕ} {n : ℕ} {row : List Record} (w : Stores s n row) (g : 
   next = rowAfter (asking g) (g .freshCookie) n row
 
   -- an answer that is not refused
-  pub answer-done : answerRefusal g s out ≡ 0 → answerOf g s out
+  pub answer-result : answerRefusal g s out ≡ 0 → answerOf g s out
       ≡ record { refusal = 0; size = length (g .request); out = answerOctets g row ++ drop (length (g .request)) out; store = storeOctets n next }
-  answer-done e = answer-written g s out e ∙ rw (stores-row w, stores-size w)
+  answer-result e = answer-written g s out e ∙ rw (stores-row w, stores-size w)
 
   -- the fresh cookie is not wrong
   fresh-right : answerRefusal g s out ≡ 0 → wrongFresh (asking g) (g .freshCookie) row ≡ false

@@ -4,6 +4,6 @@ pub mod Answers
 pub mod Accepting
 pub mod Leaving
 pub mod Reported
-pub mod Owing
-pub mod Sights
-pub mod Spent
+pub mod Unsent
+pub mod Observed
+pub mod SentOnce

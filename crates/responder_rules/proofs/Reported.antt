@@ -15,13 +15,13 @@ use Rattle.responder_rules.proofs.Accepting.{not-given}
 -- ---- a clear
 
 -- a clear of octets of the right size
-pub clear-done : (s : List ℕ) → wrongSize s ≡ false → cleared s ≡ (0, storeOctets (sizeOf s) [])
+pub clear-result : (s : List ℕ) → wrongSize s ≡ false → cleared s ≡ (0, storeOctets (sizeOf s) [])
 unfolding cleared
-clear-done s h = rw h
+clear-result s h = rw h
 
 -- leaves an empty row
 pub clear-stores : (s : List ℕ) → wrongSize s ≡ false → Stores (cleared s .1) (sizeOf s) []
-clear-stores s h = let z = right-size s h in rw (clear-done s h) (store-written (sizeOf s) [] tt (omega arith) (z .0) (z .1))
+clear-stores s h = let z = right-size s h in rw (clear-result s h) (store-written (sizeOf s) [] tt (omega arith) (z .0) (z .1))
 
 -- ---- a report
 
@@ -39,9 +39,9 @@ module _ {s : List ℕ} {n : ℕ} {row : List Record} (w : Stores s n row) (c t 
       ap (held c) (sym (stores-row w)) ∙ not-false _ (or-none (not (held c (rowOf s))) _ (q .0) .0)
 
   -- and gives it the time
-  pub report-done : reporting s c t ≡ (0, storeOctets n (reported c t row))
+  pub report-result : reporting s c t ≡ (0, storeOctets n (reported c t row))
   unfolding reporting
-  report-done = rw (e, stores-row w, stores-size w)
+  report-result = rw (e, stores-row w, stores-size w)
 
   -- the row stays sound and within its size
   pub report-stores : t < 2 ^ 64 → Stores (storeOctets n (reported c t row)) n (reported c t row)

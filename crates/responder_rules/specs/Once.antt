@@ -51,7 +51,7 @@ interleaved refusal out = eqb refusal 0 && interleavedFlag (headerOf out .flags)
 
 pub data Event : Type 0 where
   -- a clear
-  forgets : Event
+  clears : Event
   -- a report that was accepted
   reports : (cookie time : ℕ) → Event
   -- an interleaved answer: the server cookie of its request, and the transmit timestamp of the header that was written
@@ -61,7 +61,7 @@ pub data Event : Type 0 where
 
 -- a call by its arguments, its refusal number and its output afterwards
 abbrev pub eventOf : Call → (refusal : ℕ) (out : List ℕ) → Event
-eventOf clear refusal out = cond (eqb refusal 0) forgets other
+eventOf clear refusal out = cond (eqb refusal 0) clears other
 eventOf (report c t) refusal out = cond (eqb refusal 0) (reports c t) other
 eventOf (answer g lent) refusal out = cond (interleaved refusal out) (sends (askedCookie g) (headerOf out .transmit)) other
 
@@ -69,14 +69,14 @@ unfoldable pub events : List Call → List ℕ → List Event
 events [] s = []
 events (c ∷ cs) s = eventOf c (step c s .refusal) (step c s .out) ∷ events cs (step c s .store)
 
--- `owed` has the times that were reported and not sent since, for each cookie the last one. A sent time is the one owed to the cookie
--- of its request, and is owed no more
-unfoldable pub balanced : (owed : List Record) → List Event → Bool
-balanced owed [] = true
-balanced owed (forgets ∷ es) = balanced [] es
-balanced owed (reports c t ∷ es) = balanced (record { cookie = c; time = t } ∷ without c owed) es
-balanced owed (sends c t ∷ es) = held c owed && eqb (timeOf c owed) t && balanced (without c owed) es
-balanced owed (other ∷ es) = balanced owed es
+-- `unsent` has the times that were reported and not sent since, for each cookie the last one. A sent time is the one that `unsent` has
+-- for the cookie of its request, and leaves it
+unfoldable pub eachSentOnce : (unsent : List Record) → List Event → Bool
+eachSentOnce unsent [] = true
+eachSentOnce unsent (clears ∷ es) = eachSentOnce [] es
+eachSentOnce unsent (reports c t ∷ es) = eachSentOnce (record { cookie = c; time = t } ∷ without c unsent) es
+eachSentOnce unsent (sends c t ∷ es) = held c unsent && eqb (timeOf c unsent) t && eachSentOnce (without c unsent) es
+eachSentOnce unsent (other ∷ es) = eachSentOnce unsent es
 
 -- ---- the claim
 
@@ -86,15 +86,15 @@ pub record Right (n : ℕ) (s : List ℕ) : Type 0 where
   pub size : sizeOf s ≡ n
   pub within : length (rowOf s) ≤ n
   -- no cookie stands twice: when its record leaves, it is not in the row
-  pub once : (c : ℕ) → held c (without c (rowOf s)) ≡ false
+  pub distinct : (c : ℕ) → held c (without c (rowOf s)) ≡ false
 
 pub record OnceClaim (s : List ℕ) (cs : List Call) : Type 0 where
   -- each reported time is sent at most once, and only in answer to a request with the cookie that it was reported for
-  pub spent : balanced [] (events cs (cleared s .1)) ≡ true
+  pub sent-once : eachSentOnce [] (events cs (cleared s .1)) ≡ true
   -- the calls leave a right store, of the size that it had
-  pub kept : Right (sizeOf s) (reached cs (cleared s .1))
+  pub store-right : Right (sizeOf s) (reached cs (cleared s .1))
   -- after an interleaved answer the cookie of its request is not in the store
-  pub gone : (g : Given) (out : List ℕ) → InRange g [] → let w = answerOf g (reached cs (cleared s .1)) out in
+  pub record-left : (g : Given) (out : List ℕ) → InRange g [] → let w = answerOf g (reached cs (cleared s .1)) out in
       interleaved (w .refusal) (w .out) ≡ true → held (askedCookie g) (rowOf (w .store)) ≡ false
 
 -- for any octets of the right size and every list of calls
