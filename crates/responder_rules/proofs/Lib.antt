@@ -4,6 +4,7 @@ pub mod Answers
 pub mod Accepting
 pub mod Leaving
 pub mod Reported
+pub mod Exact
 pub mod Unsent
 pub mod Observed
 pub mod SentOnce

@@ -10,8 +10,9 @@ use Rattle.store_rules.proofs.Rows.{or-none, time-held}
 use Rattle.store_rules.proofs.Stores.{Stores, stores-right, stores-row, stores-size}
 use Rattle.store_rules.proofs.Kept.{sound-without, without-gone, without-absent}
 use Rattle.responder_rules.specs.Answer.{Given, asking, wantsInterleaved, savedTime, rowAfter, answerRefusal, answerOf}
-use Rattle.responder_rules.specs.Claim.{InRange}
-use Rattle.responder_rules.specs.Once.{Call, clear, report, answer, Typed, AllTyped, step, reached, askedCookie, Event, reports, sends, eventOf, events, eachSentOnce, Right, Once}
+use Rattle.responder_rules.specs.Call.{Call, clear, report, answer, stepStore}
+use Rattle.responder_rules.specs.Claim.{InRange, Typed}
+use Rattle.responder_rules.specs.Once.{AllTyped, reached, askedCookie, Event, reports, sends, eventOf, events, eachSentOnce, Right, Once}
 use Rattle.responder_rules.proofs.Accepting.{answer-refused}
 use Rattle.responder_rules.proofs.Leaving.{is-saved, answer-result, answer-stores, fresh-new}
 use Rattle.responder_rules.proofs.Reported.{clear-result, clear-stores, report-refused, report-held, report-result, report-stores}
@@ -22,9 +23,9 @@ use Rattle.responder_rules.proofs.Observed.{refused-observed, output-he
 record Next (c : Call) (s : List ℕ) (n : ℕ) (unsent : List Record) : Type 0 where
   pub row : List Record
   pub unsent-after : List Record
-  pub stores : Stores (step c s .store) n row
+  pub stores : Stores (stepStore c s .store) n row
   pub times : TimesUnsent unsent-after row
-  pub continues : (es : List Event) → eachSentOnce unsent (eventOf c (step c s .refusal) (step c s .out) ∷ es) ≡ eachSentOnce unsent-after es
+  pub continues : (es : List Event) → eachSentOnce unsent (eventOf c (stepStore c s .refusal) (stepStore c s .out) ∷ es) ≡ eachSentOnce unsent-after es
 
 -- ---- each call
 
@@ -137,10 +138,10 @@ module _ {s : List ℕ} {n : ℕ} {unsent row : List Record} (w : Stores s n row
 -- ---- all calls
 
 -- each time is sent at most once
-all-sent-once : {s : List ℕ} {n : ℕ} {unsent row : List Record} (cs : List Call) → AllTyped cs → Stores s n row → TimesUnsent unsent row → eachSentOnce unsent (events cs s) ≡ true
+all-sent-once : {s : List ℕ} {n : ℕ} {unsent row : List Record} (cs : List Call) → AllTyped cs → Stores s n row → TimesUnsent unsent row → eachSentOnce unsent (events stepStore cs s) ≡ true
 unfolding eachSentOnce events
 all-sent-once [] t w o = refl
-all-sent-once {s} (c ∷ cs) t w o = let p = next w o c (t .0) in p .continues (events cs (step c s .store)) ∙ all-sent-once cs (t .1) (p .stores) (p .times)
+all-sent-once {s} (c ∷ cs) t w o = let p = next w o c (t .0) in p .continues (events stepStore cs (stepStore c s .store)) ∙ all-sent-once cs (t .1) (p .stores) (p .times)
 
 -- the row that the store then holds
 record Holds (s : List ℕ) (n : ℕ) : Type 0 where
@@ -148,7 +149,7 @@ record Holds (s : List ℕ) (n : ℕ) : Type 0 where
   pub stores : Stores s n row
 
 -- calls lead from such a store to such a store
-reached-holds : {s : List ℕ} {n : ℕ} {unsent row : List Record} (cs : List Call) → AllTyped cs → Stores s n row → TimesUnsent unsent row → Holds (reached cs s) n
+reached-holds : {s : List ℕ} {n : ℕ} {unsent row : List Record} (cs : List Call) → AllTyped cs → Stores s n row → TimesUnsent unsent row → Holds (reached stepStore cs s) n
 unfolding reached
 reached-holds {row = row} [] t w o = record { row = row; stores = w }
 reached-holds (c ∷ cs) t w o = let p = next w o c (t .0) in reached-holds cs (t .1) (p .stores) (p .times)

@@ -1,4 +1,5 @@
 -- The responder of document 01.
 pub mod Answer
+pub mod Call
 pub mod Claim
 pub mod Once
