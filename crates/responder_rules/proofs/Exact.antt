@@ -1,11 +1,11 @@
 -- A call is accepted exactly when no refusal applies to it, and then does what the page says. Assumes nothing.
-use mathlib.Core.Path.{_≡_, sym, ap, _∙_, subst⁻¹}
+use mathlib.Core.Path.{sym, ap, _∙_, subst⁻¹}
 use mathlib.Core.List.{List, []}
 use Prim.Native.Nat.{ℕ}
 use lib.ListN.{length, drop}
 use lib.Seq.{drop-at}
 use Rattle.octets.specs.Number.{Octets}
-use Rattle.store_rules.specs.Row.{rowOf, reportRefusal, reporting}
+use Rattle.store_rules.specs.Row.{rowOf, reporting}
 use Rattle.store_rules.proofs.Stores.{store-read}
 use Rattle.responder_rules.specs.Answer.{Given, Outcome, answerOctets, answerOf}
 use Rattle.responder_rules.specs.Claim.{InRange, AnswerClaim, Answerable, AnswerSent, EveryAnswer, EveryReport}

@@ -8,3 +8,4 @@ pub mod Exact
 pub mod Unsent
 pub mod Observed
 pub mod SentOnce
+pub mod Refused

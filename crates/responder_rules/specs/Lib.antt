@@ -3,3 +3,4 @@ pub mod Answer
 pub mod Call
 pub mod Claim
 pub mod Once
+pub mod Refused
