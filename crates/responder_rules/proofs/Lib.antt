@@ -9,3 +9,4 @@ pub mod Unsent
 pub mod Observed
 pub mod SentOnce
 pub mod Refused
+pub mod Idle

@@ -5,18 +5,18 @@ use mathlib.Core.List.{List, [], _∷_}
 use Prim.Native.Nat.{ℕ, _<_, _^_}
 use borrow.Author.Tests.{eq-eqb, ne-eqb, eqb-true, eqb-false}
 use lib.Dec.{eqb}
-use Rattle.store_rules.specs.Row.{Record, held, timeOf, reported, without, joined, wrongSize, wrongStore, cleared, reportRefusal}
+use Rattle.store_rules.specs.Row.{Record, held, timeOf, reported, without, joined, sizeOf, wrongSize, wrongStore, cleared, reportRefusal}
 use Rattle.store_rules.proofs.Rows.{or-none, time-held}
 use Rattle.store_rules.proofs.Stores.{Stores, stores-right, stores-row, stores-size}
 use Rattle.store_rules.proofs.Kept.{sound-without, without-gone, without-absent}
 use Rattle.responder_rules.specs.Answer.{Given, asking, wantsInterleaved, savedTime, rowAfter, answerRefusal, answerOf}
-use Rattle.responder_rules.specs.Call.{Call, clear, report, answer, stepStore}
+use Rattle.responder_rules.specs.Call.{Call, clear, report, answer, Responder, stepStore}
 use Rattle.responder_rules.specs.Claim.{InRange, Typed}
 use Rattle.responder_rules.specs.Once.{AllTyped, reached, askedCookie, Event, reports, sends, eventOf, events, eachSentOnce, Right, Once}
 use Rattle.responder_rules.proofs.Accepting.{answer-refused}
 use Rattle.responder_rules.proofs.Leaving.{is-saved, answer-result, answer-stores, fresh-new}
 use Rattle.responder_rules.proofs.Reported.{clear-result, clear-stores, report-refused, report-held, report-result, report-stores}
-use Rattle.responder_rules.proofs.Unsent.{TimesUnsent, unsent-empty, unsent-joined, unsent-without, unsent-reported}
+use Rattle.responder_rules.proofs.Unsent.{TimesUnsent, unsent-empty, unsent-row, unsent-joined, unsent-without, unsent-reported}
 use Rattle.responder_rules.proofs.Observed.{refused-observed, output-header, accepted-observed, interleaved-left}
 
 -- what a call leads to: the row that its store then holds, and the times that were reported and not sent since
@@ -143,16 +143,27 @@ unfolding eachSentOnce events
 all-sent-once [] t w o = refl
 all-sent-once {s} (c ∷ cs) t w o = let p = next w o c (t .0) in p .continues (events stepStore cs (stepStore c s .store)) ∙ all-sent-once cs (t .1) (p .stores) (p .times)
 
--- the row that the store then holds
-record Holds (s : List ℕ) (n : ℕ) : Type 0 where
+-- a store that holds some row
+pub record Holds (s : List ℕ) (n : ℕ) : Type 0 where
   pub row : List Record
   pub stores : Stores s n row
 
--- calls lead from such a store to such a store
-reached-holds : {s : List ℕ} {n : ℕ} {unsent row : List Record} (cs : List Call) → AllTyped cs → Stores s n row → TimesUnsent unsent row → Holds (reached stepStore cs s) n
+-- each call of a responder leaves such a store
+abbrev pub LeavesStores : Responder → Type 0
+LeavesStores step = (c : Call) (s : List ℕ) (n : ℕ) → Typed c → Holds s n → Holds (step c s .store) n
+
+pub step-holds : LeavesStores stepStore
+step-holds c s n t h = let p = next (h .stores) (unsent-row (h .row)) c t in record { row = p .row; stores = p .stores }
+
+-- and so does then a list of calls
+pub reached-holds : (step : Responder) → LeavesStores step → (cs : List Call) (s : List ℕ) (n : ℕ) → AllTyped cs → Holds s n → Holds (reached step cs s) n
 unfolding reached
-reached-holds {row = row} [] t w o = record { row = row; stores = w }
-reached-holds (c ∷ cs) t w o = let p = next w o c (t .0) in reached-holds cs (t .1) (p .stores) (p .times)
+reached-holds step leaves [] s n t h = h
+reached-holds step leaves (c ∷ cs) s n t h = reached-holds step leaves cs (step c s .store) n (t .1) (leaves c s n (t .0) h)
+
+-- a cleared store holds an empty row
+pub cleared-holds : (s : List ℕ) → wrongSize s ≡ false → Holds (cleared s .1) (sizeOf s)
+cleared-holds s h = record { row = []; stores = clear-stores s h }
 
 -- a store that holds a row is right
 pub right-store : {s : List ℕ} {n : ℕ} {row : List Record} → Stores s n row → Right n s
@@ -166,13 +177,11 @@ right-store {s} {n} {row} w = record {
 -- the claim
 pub once-only : Once
 once-only s h cs t =
-    let w = clear-stores s h in
-    let o = unsent-empty [] in
-    let p = reached-holds cs t w o in
+    let w = reached-holds stepStore step-holds cs (cleared s .1) (sizeOf s) t (cleared-holds s h) .stores in
     record {
-      sent-once = all-sent-once cs t w o;
-      store-right = right-store (p .stores);
-      record-left = λ g out r. interleaved-left (p .stores) g r out;
+      sent-once = all-sent-once cs t (clear-stores s h) (unsent-empty []);
+      store-right = right-store w;
+      record-left = λ g out r. interleaved-left w g r out;
     }
 
 -- ---- what `eachSentOnce` rules out

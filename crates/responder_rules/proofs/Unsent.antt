@@ -19,6 +19,10 @@ pub unsent-empty : (unsent : List Record) → TimesUnsent unsent []
 unfolding timeOf
 unsent-empty unsent = record { same-time = λ c h. absurd (h refl) }
 
+-- the times of the row itself
+pub unsent-row : (row : List Record) → TimesUnsent row row
+unsent-row row = record { same-time = λ c h. refl }
+
 -- a fresh cookie joins
 pub unsent-joined : (n d : ℕ) {unsent row : List Record} → SoundRow row → held d row ≡ false → TimesUnsent unsent row → TimesUnsent unsent (joined n d row)
 unsent-joined n d {unsent} {row} g h o = record {

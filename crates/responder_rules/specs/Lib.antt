@@ -4,3 +4,4 @@ pub mod Call
 pub mod Claim
 pub mod Once
 pub mod Refused
+pub mod Idle
