@@ -20,7 +20,7 @@ use Rattle.responder_rules.specs.Call.{Call, clear, report, answer, Resp
 use Rattle.responder_rules.specs.Claim.{InRange, Answerable, AnswerSent, EveryAnswerFor, Reportable, EveryReportFor}
 use Rattle.responder_rules.specs.Refused.{among, RefusalsFor}
 use Rattle.responder_rules.specs.Once.{AllTyped, Event, events, clears, other, reports, sends, clearedBy, eachSentOnce, OnceFor}
-use Rattle.responder_rules.specs.Idle.{refusesRequests, RefusesRequests, RefusesReports, doesNothing, WritesNothing, SavesNothing, answersFromOne, SentOnceFor, IdleRejected, HoldOfRefusing}
+use Rattle.responder_rules.specs.Idle.{refusesRequests, RefusesRequests, RefusesReports, doesNothing, WritesNothing, StoresNothing, answersFromOne, SentOnceFor, IdleRejected, HoldsOfRefusing}
 use Rattle.responder_rules.proofs.Exact.{every-report}
 use Rattle.responder_rules.proofs.Refused.{refusals}
 use Rattle.responder_rules.proofs.SentOnce.{LeavesStores, step-holds, reached-holds, cleared-holds, right-store, sent-twice}
@@ -118,8 +118,8 @@ module _ (step : Responder) where
       let z : _≡_ {A = ℕ} 2 0 = sym zeros-unsound ∙ sym (λ i. soundRefusal (take (size i) (out i)) 4) ∙ a .sent .sound in
       omega arith
 
-  all-saving-nothing : SavesNothing step → EveryAnswerFor step → ⊥
-  all-saving-nothing n d =
+  all-storing-nothing : StoresNothing step → EveryAnswerFor step → ⊥
+  all-storing-nothing n d =
       let z : _≡_ {A = ℕ} 0 1 = ap (λ (s : List ℕ). getD s 7 0) (sym (n (given 0 1) room zeros) ∙ answered d .stored) ∙ joined-octet in
       omega arith
 
@@ -161,9 +161,9 @@ pub idle-rejected : IdleRejected
 idle-rejected = record {
   refusing = all-refusing refusesRequests (λ g out s z. omega arith);
   all-refusing = all-refusing;
-  doing-nothing = all-writing-nothing doesNothing (λ g out s. refl);
+  idling = all-writing-nothing doesNothing (λ g out s. refl);
   all-writing-nothing = all-writing-nothing;
-  all-saving-nothing = all-saving-nothing;
+  all-storing-nothing = all-storing-nothing;
   all-refusing-reports = all-refusing-reports;
   answering-from-one = λ d. sending-twice (λ s h cs t. d s h cs t .sent-once);
   sending-twice = sending-twice;
@@ -209,8 +209,8 @@ refusing-refusals clear s = refusals clear s
 refusing-refusals (report c t) s = refusals (report c t) s
 refusing-refusals (answer g out) s = λ z. record { store = refl; out = refl; size = refl; number = refl }
 
-pub hold-of-refusing : HoldOfRefusing
-hold-of-refusing = record {
+pub holds-of-refusing : HoldsOfRefusing
+holds-of-refusing = record {
   once = refusing-once;
   reports = λ c t s. let e = every-report c t s in record { only-reportable = e .only-reportable; all-reportable = e .all-reportable };
   refusals = refusing-refusals;

@@ -35,8 +35,8 @@ doesNothing c s = record { refusal = 0; size = 0; out = lent c; store = s }
 abbrev pub WritesNothing : Responder → Type 0
 WritesNothing step = (g : Given) (out s : List ℕ) → step (answer g out) s .out ≡ out
 
-abbrev pub SavesNothing : Responder → Type 0
-SavesNothing step = (g : Given) (out s : List ℕ) → step (answer g out) s .store ≡ s
+abbrev pub StoresNothing : Responder → Type 0
+StoresNothing step = (g : Given) (out s : List ℕ) → step (answer g out) s .store ≡ s
 
 -- ---- answering every interleaved request from one saved time
 
@@ -58,9 +58,9 @@ pub record IdleRejected : Type 0 where
   -- by the answers' claim
   pub refusing : EveryAnswerFor refusesRequests → ⊥
   pub all-refusing : (step : Responder) → RefusesRequests step → EveryAnswerFor step → ⊥
-  pub doing-nothing : EveryAnswerFor doesNothing → ⊥
+  pub idling : EveryAnswerFor doesNothing → ⊥
   pub all-writing-nothing : (step : Responder) → WritesNothing step → EveryAnswerFor step → ⊥
-  pub all-saving-nothing : (step : Responder) → SavesNothing step → EveryAnswerFor step → ⊥
+  pub all-storing-nothing : (step : Responder) → StoresNothing step → EveryAnswerFor step → ⊥
   -- by the reports' claim
   pub all-refusing-reports : (step : Responder) → RefusesReports step → EveryReportFor step → ⊥
   -- by the once-only claim, of which what the observer sees is enough
@@ -68,7 +68,7 @@ pub record IdleRejected : Type 0 where
   pub sending-twice : SentOnceFor answersFromOne → ⊥
 
 -- the claims that hold of the responder that refuses every request, so that they say too little alone
-pub record HoldOfRefusing : Type 0 where
+pub record HoldsOfRefusing : Type 0 where
   pub once : OnceFor refusesRequests
   pub reports : EveryReportFor refusesRequests
   pub refusals : RefusalsFor refusesRequests
