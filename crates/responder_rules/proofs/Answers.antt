@@ -152,7 +152,7 @@ module _ (g : Given) (row : List Record) (a : Accepted g) (r : InRange g row) wh
       let h = sentHeader g row in
       ap headerOf (append-assoc (headerOctets h) (chainOctets (sentFields g)) t) ∙ read-written h (chainOctets (sentFields g) ++ t) header-range
 
-  pub answer-claim : AnswerClaim g row
+  pub answer-claim : AnswerClaim g row (answerOctets g row)
   answer-claim = record {
     long = answer-size g a row;
     sound = answer-sound g a row;
