@@ -1,18 +1,16 @@
 -- A refusal changes nothing, on any octets lent. Assumes nothing.
 use mathlib.Core.Path.{_≡_, refl, sym, ap, _∙_}
-use mathlib.Core.Bool.{true, false, cond, not, _&&_, _||_}
+use mathlib.Core.Bool.{true, cond, not, _&&_, _||_}
 use mathlib.Core.List.{List, [], _∷_}
-use Prim.Native.Nat.{ℕ, zero, suc, _*_, _≤_}
-use native.Mathlib.Omega.{arith}
-use borrow.Author.Tests.{eqb-true, ne-eqb}
+use Prim.Native.Nat.{ℕ, _*_}
+use borrow.Author.Tests.{eqb-true}
 use lib.Dec.{eqb, ltb}
 use lib.ListN.{length, drop, take-append-drop}
 use lib.Seq.{drop-drop}
 use Rattle.octets.specs.Among.{among}
-use Rattle.header.specs.Header.{wrongLength, versionOf, modeOf, refusal}
-use Rattle.chain.specs.Chain.{stepRefusal, walk, chainRefusal, soundRefusal}
-use Rattle.chain.specs.declared.cursor.Step.{Step}
-use Rattle.chain.specs.declared.cursor.Step.the-variants.{Found, WrongLength, WrongPadding, End}
+use Rattle.octets.proofs.Among.{among-all, among-not-zero}
+use Rattle.chain.proofs.Refusals.{SoundOrLow, sound-low}
+use Rattle.header.specs.Header.{refusal}
 use Rattle.exchange.proofs.Responses.{response-sound}
 use Rattle.poll_request.specs.Request.{pollLength}
 use Rattle.state.specs.Rules.{offered}
@@ -34,23 +32,6 @@ use Rattle.client_rules.specs.Refused.{lent, refusalsOf, Refused, Refusa
 
 -- ---- the numbers
 
-step-most : (s : Step) → stepRefusal s ≤ 5
-step-most (Found f c) = omega arith
-step-most WrongLength = omega arith
-step-most WrongPadding = omega arith
-step-most End = omega arith
-
-abbrev Most : ℕ → Type 0
-Most n = n ≤ 5
-
-sound-most : (s : List ℕ) (wanted : ℕ) → soundRefusal s wanted ≤ 5
-unfolding soundRefusal chainRefusal refusal
-sound-most s wanted =
-    by-test Most (eqb (refusal s wanted) 0) (λ e. step-most (walk (drop 48 s) 0 .stop))
-    (λ e. by-test Most (wrongLength s) (λ x. omega arith)
-    (λ x. by-test Most (not (eqb (versionOf s) 5)) (λ y. omega arith)
-    (λ y. by-test Most (not (eqb (modeOf s) wanted)) (λ z. omega arith) (λ z. omega arith))))
-
 -- the refusals that concern an event, but 6
 abbrev laterOf : Event → List ℕ
 laterOf (Open timescale c) = 7 ∷ []
@@ -60,23 +41,13 @@ laterOf (Sent t1) = 7 ∷ []
 laterOf (Receive r) = 7 ∷ 1 ∷ 2 ∷ 3 ∷ 4 ∷ 5 ∷ 9 ∷ 10 ∷ []
 laterOf Look = 7 ∷ []
 
--- a datagram's refusal is among those of a response
-low-among : (n : ℕ) → n ≤ 5 → among n (0 ∷ 6 ∷ 7 ∷ 1 ∷ 2 ∷ 3 ∷ 4 ∷ 5 ∷ 9 ∷ 10 ∷ []) ≡ true
-low-among zero h = refl
-low-among (suc zero) h = refl
-low-among (suc (suc zero)) h = refl
-low-among (suc (suc (suc zero))) h = refl
-low-among (suc (suc (suc (suc zero)))) h = refl
-low-among (suc (suc (suc (suc (suc zero))))) h = refl
-low-among (suc (suc (suc (suc (suc (suc n)))))) h = absurd (omega arith)
-
 -- an event that brings no other number with it
 abbrev Known : Event → Type 0
 Known (Open timescale c) = Unit {0}
 Known Close = Unit {0}
 Known (Poll cookie interleaved room) = Unit {0}
 Known (Sent t1) = Unit {0}
-Known (Receive r) = r .refusal ≤ 5
+Known (Receive r) = SoundOrLow (r .refusal)
 Known Look = Unit {0}
 
 -- success, or one of the refusals that concern it
@@ -100,16 +71,12 @@ place-answers (Sent t1) datagram (opened o) k =
 place-answers (Receive r) datagram closed k = by-test (Answers (Receive r)) (eqb (r .t4) 0) (λ x. refl) (λ x. refl)
 place-answers (Receive r) datagram (opened o) k =
     by-test (Answers (Receive r)) (eqb (r .t4) 0) (λ x. refl)
-    (λ x. by-test (Answers (Receive r)) (not (eqb (r .refusal) 0)) (λ y. low-among (r .refusal) k)
+    (λ x. by-test (Answers (Receive r)) (not (eqb (r .refusal) 0)) (λ y. among-all (r .refusal) (0 ∷ 1 ∷ 2 ∷ 3 ∷ 4 ∷ 5 ∷ []) (0 ∷ 6 ∷ laterOf (Receive r)) refl k)
     (λ y. by-request (Answers (Receive r)) (o .outstanding) _ refl
     (λ q e. by-test (Answers (Receive r)) (not (eqb (r .client .0) (q .client))) (λ z. refl)
     (λ z. by-test (Answers (Receive r)) (r .interleaved && eqb (q .server) 0) (λ u. refl) (λ u. refl)))))
 place-answers Look datagram closed k = refl
 place-answers Look datagram (opened o) k = refl
-
--- a refusal is not success
-not-success : (n : ℕ) (ns : List ℕ) → (n ≡ 0 → ⊥) → among n (0 ∷ ns) ≡ true → among n ns ≡ true
-not-success n ns f h = let z : eqb n 0 ≡ false = ne-eqb n 0 f in rw z at h
 
 -- ---- the octets
 
@@ -177,7 +144,7 @@ event-refused c a e datagram answer t k r s f =
     record {
       table-kept = i .kept g;
       zeros = s .plain (w .0) g ∙ ap (λ (m : ℕ). plainAnswer m (lent c)) (sym n);
-      number = rw (n, r) (not-success (w .0 .refusal) (6 ∷ laterOf e) g (i .number));
+      number = rw (n, r) (among-not-zero (w .0 .refusal) (6 ∷ laterOf e) g (i .number));
     }
 
 -- of a call that only reads
@@ -188,7 +155,7 @@ verdict-refused : (a : ℕ) (id t : List ℕ) (s : Seen) → among (s .refusal) 
 verdict-refused a id t s h =
     let P = IfRefused (loopVerdict a id) t in
     by-test P (wrongId id) (λ x n. plain-refused _ t 6 refl)
-    (λ x. by-test P (eqb (s .refusal) 0) (λ y n. absurd (n refl)) (λ y n. plain-refused _ t (s .refusal) (not-success (s .refusal) (6 ∷ 7 ∷ []) n h)))
+    (λ x. by-test P (eqb (s .refusal) 0) (λ y n. absurd (n refl)) (λ y n. plain-refused _ t (s .refusal) (among-not-zero (s .refusal) (6 ∷ 7 ∷ []) n h)))
 
 -- whatever is seen of the associations
 publish-refused : (selected : ℕ) (id out t : List ℕ) (see : ℕ → Seen) → IfRefused (publish selected id out) t (publishFor selected id out see)
@@ -210,7 +177,7 @@ refusals (poll a cookie exponent interleaved out) t =
     (record { number = λ r. number-of (r .refusal) _ out refl; plain = λ r n. plain-of (r .refusal) _ out n })
 refusals (sent a t1) t = event-refused _ a _ [] refusalAnswer t tt refl plainly-refusal
 refusals (receive a datagram t4) t =
-    event-refused _ a _ datagram receiveAnswer t (rw (response-sound datagram t4) (sound-most datagram 4)) refl plainly-receive
+    event-refused _ a _ datagram receiveAnswer t (rw (response-sound datagram t4) (sound-low datagram 4)) refl plainly-receive
 refusals (loopVerdict a id) t = verdict-refused a id t (seenOctets t a) (kept-at a Look [] t tt .number)
 refusals (publish selected id out) t =
     by-test (IfRefused (publish selected id out) t) (eqb (length t) tableSize)

@@ -18,7 +18,7 @@ use Rattle.responder_rules.specs.declared.Server.{Server}
 use Rattle.responder_rules.specs.Answer.{Given, Outcome, asking, rowAfter, answersTo, answerFields, answerOctets, answerRefusal, answerOf}
 use Rattle.responder_rules.specs.Call.{Call, clear, report, answer, Responder}
 use Rattle.responder_rules.specs.Claim.{InRange, Answerable, AnswerSent, EveryAnswerFor, Reportable, EveryReportFor}
-use Rattle.responder_rules.specs.Refused.{among, RefusalsFor}
+use Rattle.responder_rules.specs.Refused.{RefusalsFor}
 use Rattle.responder_rules.specs.Once.{AllTyped, Event, events, clears, other, reports, sends, clearedBy, eachSentOnce, OnceFor}
 use Rattle.responder_rules.specs.Idle.{refusesRequests, RefusesRequests, RefusesReports, doesNothing, WritesNothing, StoresNothing, answersFromOne, SentOnceFor, IdleRejected, HoldsOfRefusing}
 use Rattle.responder_rules.proofs.Exact.{every-report}
@@ -204,7 +204,6 @@ refusing-once s h cs t = record {
 }
 
 refusing-refusals : RefusalsFor refusesRequests
-unfolding among
 refusing-refusals clear s = refusals clear s
 refusing-refusals (report c t) s = refusals (report c t) s
 refusing-refusals (answer g out) s = λ z. record { store = refl; out = refl; size = refl; number = refl }

@@ -1,10 +1,10 @@
 -- A refusal returns its number and zeros, and changes nothing: any call with any arguments, on any octets lent as store and output, of any
 -- size.
 use mathlib.Core.Path.{_≡_}
-use mathlib.Core.Bool.{Bool, true, false, _||_}
+use mathlib.Core.Bool.{true}
 use mathlib.Core.List.{List, [], _∷_}
 use Prim.Native.Nat.{ℕ}
-use lib.Dec.{eqb}
+use Rattle.octets.specs.Among.{among}
 use Rattle.responder_rules.specs.Answer.{Outcome}
 use Rattle.responder_rules.specs.Call.{Call, clear, report, answer, lent, Responder, stepStore}
 
@@ -13,10 +13,6 @@ abbrev pub refusalsOf : Call → List ℕ
 refusalsOf clear = 6 ∷ []
 refusalsOf (report c t) = 6 ∷ 12 ∷ []
 refusalsOf (answer g out) = 6 ∷ 1 ∷ 2 ∷ 3 ∷ 4 ∷ 5 ∷ 8 ∷ 11 ∷ []
-
-unfoldable pub among : ℕ → List ℕ → Bool
-among n [] = false
-among n (m ∷ ms) = eqb n m || among n ms
 
 -- what a refused call returns and leaves
 pub record RefusedCall (c : Call) (s : List ℕ) (w : Outcome) : Type 0 where
