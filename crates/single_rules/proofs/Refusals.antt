@@ -12,7 +12,7 @@ use Rattle.chain.specs.declared.cursor.Step.the-variants.{Found, WrongLength, W
 use Rattle.filter.specs.Calls.{isFilter, isId}
 use Rattle.filter_weight.specs.Weighing.{numbers}
 use Rattle.filter_weight.specs.declared.Weighing.{Weighing}
-use Rattle.single_rules.specs.Single.{Call, headerRead, headerWrite, sound, filterAdd, filterUnion, filterWeight, lent, Answer, plainAnswer, readAnswer, writtenAnswer, weightAnswer}
+use Rattle.single_rules.specs.Single.{Call, headerRead, headerWrite, sound, filterAdd, filterUnion, filterWeight, lent, Answer, plainAnswer, readAnswer, outputAnswer, weightAnswer}
 use Rattle.single_rules.specs.Refusals.{concerning, isOneOf, Refusal, Refusals}
 
 -- what holds of both choices holds of the one that is taken
@@ -55,7 +55,7 @@ refusals (headerRead s wanted) =
     header-number (λ n. IfRefused c (readAnswer (reading n (headerOf s)))) (accepted c _ refl) (refused c 1 refl) (refused c 2 refl) (refused c 3 refl) s wanted
 refusals (headerWrite h out) =
     let c = headerWrite h out in
-    let P : ℕ × List ℕ → Type 0 = λ w. IfRefused c (writtenAnswer w) in
+    let P : ℕ × List ℕ → Type 0 = λ w. IfRefused c (outputAnswer w) in
     either P (ltb 3 (h .leap) || not (eqb (h .mode) 3 || eqb (h .mode) 4)) (refused c 6 refl)
     (either P (ltb (length out) 48) (refused c 11 refl) (accepted c _ refl))
 refusals (sound s wanted) =
@@ -67,10 +67,10 @@ refusals (sound s wanted) =
     (header-number P none (refused c 1 refl) (refused c 2 refl) (refused c 3 refl) s wanted)
 refusals (filterAdd filter id) =
     let c = filterAdd filter id in
-    either (λ (w : ℕ × List ℕ). IfRefused c (writtenAnswer w)) (isFilter filter && isId id) (accepted c _ refl) (refused c 6 refl)
+    either (λ (w : ℕ × List ℕ). IfRefused c (outputAnswer w)) (isFilter filter && isId id) (accepted c _ refl) (refused c 6 refl)
 refusals (filterUnion into other) =
     let c = filterUnion into other in
-    either (λ (w : ℕ × List ℕ). IfRefused c (writtenAnswer w)) (isFilter into && isFilter other) (accepted c _ refl) (refused c 6 refl)
+    either (λ (w : ℕ × List ℕ). IfRefused c (outputAnswer w)) (isFilter into && isFilter other) (accepted c _ refl) (refused c 6 refl)
 refusals (filterWeight filter) =
     let c = filterWeight filter in
     either (λ (w : Weighing). IfRefused c (weightAnswer (numbers w))) (isFilter filter) (accepted c _ refl) (refused c 6 refl)

@@ -45,16 +45,16 @@ abbrev pub readAnswer : Reading → Answer
 readAnswer (Fields h) = record { refusal = 0; fields = some h; weight = 0; left = [] }
 readAnswer (Refused n) = plainAnswer n []
 
-abbrev pub writtenAnswer : ℕ × List ℕ → Answer
-writtenAnswer w = plainAnswer (w .0) (w .1)
+abbrev pub outputAnswer : ℕ × List ℕ → Answer
+outputAnswer w = plainAnswer (w .0) (w .1)
 
 abbrev pub weightAnswer : ℕ × ℕ → Answer
 weightAnswer w = record { refusal = w .0; fields = none; weight = w .1; left = [] }
 
 abbrev pub step : Call → Answer
 step (headerRead datagram wanted) = readAnswer (reading (refusal datagram wanted) (headerOf datagram))
-step (headerWrite fields out) = writtenAnswer (written fields out)
+step (headerWrite fields out) = outputAnswer (written fields out)
 step (sound datagram wanted) = plainAnswer (soundRefusal datagram wanted) []
-step (filterAdd filter id) = writtenAnswer (addId filter id)
-step (filterUnion into other) = writtenAnswer (unite into other)
+step (filterAdd filter id) = outputAnswer (addId filter id)
+step (filterUnion into other) = outputAnswer (unite into other)
 step (filterWeight filter) = weightAnswer (weighed filter)

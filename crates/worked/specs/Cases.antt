@@ -53,8 +53,8 @@ abbrev pub padding : ℕ → List ℕ
 padding n = octets 2 0xF501 ++ octets 2 n
 
 -- the refusal of a datagram where a request is wanted
-abbrev pub refused : List ℕ → ℤ
-refused s = pos (soundRefusal s 3)
+abbrev pub refusalOf : List ℕ → ℤ
+refusalOf s = pos (soundRefusal s 3)
 
 -- a measurement gives offset and delay; ours, and any other that the table may be asked of
 abbrev pub Measurement : Type 0
@@ -82,15 +82,15 @@ unfoldable pub tableFor : Measurement → WeightFunction → List Row
 tableFor m w =
     M 1 (firstOctet 0 3 ∷ firstOctet 0 4 ∷ firstOctet 3 4 ∷ []) (pos 0x2B ∷ pos 0x2C ∷ pos 0xEC ∷ [])
     ∷ M 2 (
-    refused (take 47 request)
-    ∷ refused request
-    ∷ refused (request ++ replicate 2 0)
-    ∷ refused (request ++ padding 1232 ++ replicate 1228 0)
-    ∷ refused (request ++ padding 1236 ++ replicate 1232 0)
+    refusalOf (take 47 request)
+    ∷ refusalOf request
+    ∷ refusalOf (request ++ replicate 2 0)
+    ∷ refusalOf (request ++ padding 1232 ++ replicate 1228 0)
+    ∷ refusalOf (request ++ padding 1236 ++ replicate 1232 0)
     ∷ []
     ) (pos 1 ∷ pos 0 ∷ pos 1 ∷ pos 0 ∷ pos 1 ∷ [])
-    ∷ M 3 (refused (request ++ padding 3) ∷ []) (pos 4 ∷ [])
-    ∷ M 4 (refused (request ++ padding 5 ++ 7 ∷ 0 ∷ 0 ∷ 0 ∷ []) ∷ []) (pos 0 ∷ [])
+    ∷ M 3 (refusalOf (request ++ padding 3) ∷ []) (pos 4 ∷ [])
+    ∷ M 4 (refusalOf (request ++ padding 5 ++ 7 ∷ 0 ∷ 0 ∷ 0 ∷ []) ∷ []) (pos 0 ∷ [])
     ∷ M 5 (filtered w (replicate 15 0) 0) (pos 0x01 ∷ pos 1 ∷ [])
     ∷ M 6 (filtered w (replicate 15 0xFF) 511) (pos 0x80 ∷ pos 1 ∷ [])
     ∷ M 7 (filtered w (0x00 ∷ 0x10 ∷ 0x02 ∷ replicate 12 0) 0) (pos 0x07 ∷ pos 3 ∷ [])
