@@ -40,7 +40,6 @@ WIDENED = "the same number in a wider type"
 EXEMPT = {
     "actions/src/lib.rt:run": ({unnamed("row")}, PRINTED),
     "changes/src/lib.rt:run": ({unnamed("row")}, PRINTED),
-    "filter_weight/src/lib.rt:weigh": ({"has 2 equations and not one"}, "the case answered, and the numbers that it stands for"),
     "octets/src/part.rt:has_room": ({headed("r", "leb")}, KIT),
     "octets/src/sign.rt:from_octet": ({headed("r", "toZ")}, KIT),
     "octets/src/sign.rt:to_octet": ({headed("r", "ofZ")}, KIT),
