@@ -8,8 +8,8 @@ use lib.Dec.{eqb, ltb}
 use lib.ListN.{length, drop, take-append-drop}
 use lib.Seq.{drop-drop}
 use Rattle.octets.specs.Among.{among}
-use Rattle.octets.proofs.Among.{among-all, among-not-zero}
-use Rattle.chain.proofs.Refusals.{SoundOrLow, sound-low}
+use Rattle.octets.proofs.Among.{among-not-zero}
+use Rattle.chain.proofs.Refusals.{sound-number}
 use Rattle.header.specs.Header.{refusal}
 use Rattle.exchange.proofs.Responses.{response-sound}
 use Rattle.poll_request.specs.Request.{pollLength}
@@ -47,7 +47,7 @@ Known (Open timescale c) = Unit {0}
 Known Close = Unit {0}
 Known (Poll cookie interleaved room) = Unit {0}
 Known (Sent t1) = Unit {0}
-Known (Receive r) = SoundOrLow (r .refusal)
+Known (Receive r) = among (r .refusal) (0 ∷ 6 ∷ laterOf (Receive r)) ≡ true
 Known Look = Unit {0}
 
 -- success, or one of the refusals that concern it
@@ -71,7 +71,7 @@ place-answers (Sent t1) datagram (opened o) k =
 place-answers (Receive r) datagram closed k = by-test (Answers (Receive r)) (eqb (r .t4) 0) (λ x. refl) (λ x. refl)
 place-answers (Receive r) datagram (opened o) k =
     by-test (Answers (Receive r)) (eqb (r .t4) 0) (λ x. refl)
-    (λ x. by-test (Answers (Receive r)) (not (eqb (r .refusal) 0)) (λ y. among-all (r .refusal) (0 ∷ 1 ∷ 2 ∷ 3 ∷ 4 ∷ 5 ∷ []) (0 ∷ 6 ∷ laterOf (Receive r)) refl k)
+    (λ x. by-test (Answers (Receive r)) (not (eqb (r .refusal) 0)) (λ y. k)
     (λ y. by-request (Answers (Receive r)) (o .outstanding) _ refl
     (λ q e. by-test (Answers (Receive r)) (not (eqb (r .client .0) (q .client))) (λ z. refl)
     (λ z. by-test (Answers (Receive r)) (r .interleaved && eqb (q .server) 0) (λ u. refl) (λ u. refl)))))
@@ -177,7 +177,7 @@ refusals (poll a cookie exponent interleaved out) t =
     (record { number = λ r. number-of (r .refusal) _ out refl; plain = λ r n. plain-of (r .refusal) _ out n })
 refusals (sent a t1) t = event-refused _ a _ [] refusalAnswer t tt refl plainly-refusal
 refusals (receive a datagram t4) t =
-    event-refused _ a _ datagram receiveAnswer t (rw (response-sound datagram t4) (sound-low datagram 4)) refl plainly-receive
+    event-refused _ a _ datagram receiveAnswer t (rw (response-sound datagram t4) (sound-number (λ (n : ℕ). among n (0 ∷ refusalsOf (receive a datagram t4)) ≡ true) refl refl refl refl refl refl datagram 4)) refl plainly-receive
 refusals (loopVerdict a id) t = verdict-refused a id t (seenOctets t a) (kept-at a Look [] t tt .number)
 refusals (publish selected id out) t =
     by-test (IfRefused (publish selected id out) t) (eqb (length t) tableSize)

@@ -1,15 +1,14 @@
 -- A refused call changes nothing, and its number is one that concerns the call. Assumes nothing.
 use mathlib.Core.Path.{_≡_, refl, _∙_, subst⁻¹}
 use mathlib.Core.Bool.{Bool, true, false, cond, not, _||_}
-use mathlib.Core.List.{List, [], _∷_}
+use mathlib.Core.List.{List}
 use Prim.Native.Nat.{ℕ}
 use lib.Dec.{eqb, ltb}
 use lib.ListN.{length}
 use Rattle.header.specs.Header.{refusal}
 use Rattle.chain.specs.Chain.{soundRefusal}
 use Rattle.octets.specs.Among.{among}
-use Rattle.octets.proofs.Among.{among-all, among-not-zero}
-use Rattle.chain.proofs.Refusals.{sound-low}
+use Rattle.chain.proofs.Refusals.{sound-number}
 use Rattle.store_rules.specs.Row.{held, timeOf, rowOf, wrongSize, wrongStore, cleared, reportRefusal}
 use Rattle.responder_rules.specs.Answer.{Given, asking, wrongArguments, wrongFresh, answerRefusal}
 use Rattle.responder_rules.specs.Call.{clear, report, answer, stepStore}
@@ -37,7 +36,7 @@ answer-one g store out =
     let ms = refusalsOf (answer g out) in
     let r = soundRefusal (g .request) 3 in
     test-given ms (wrongStore store || wrongArguments (g .filter) (g .information) (g .server .leap) (g .receive) (g .estimate)) 6 _ (λ z. refl)
-    (test-given ms (not (eqb r 0)) r _ (λ z. among-not-zero r ms z (among-all r (0 ∷ 1 ∷ 2 ∷ 3 ∷ 4 ∷ 5 ∷ []) (0 ∷ ms) refl (sound-low (g .request) 3)))
+    (test-given ms (not (eqb r 0)) r _ (sound-number (OneOf ms) (none ms) (λ z. refl) (λ z. refl) (λ z. refl) (λ z. refl) (λ z. refl) (g .request) 3)
     (test-given ms (wrongFresh (asking g) (g .freshCookie) (rowOf store)) 8 _ (λ z. refl)
     (test-given ms (ltb (length out) (length (g .request))) 11 0 (λ z. refl) (none ms))))
 
