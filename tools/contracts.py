@@ -40,7 +40,6 @@ WIDENED = "the same number in a wider type"
 EXEMPT = {
     "actions/src/lib.rt:run": ({unnamed("row")}, PRINTED),
     "changes/src/lib.rt:run": ({unnamed("row")}, PRINTED),
-    "octets/src/part.rt:has_room": ({headed("r", "leb")}, KIT),
     "octets/src/sign.rt:from_octet": ({headed("r", "toZ")}, KIT),
     "octets/src/sign.rt:to_octet": ({headed("r", "ofZ")}, KIT),
     "print/src/convert.rt:from_i64": ({headed("r", "ofZ")}, KIT),
