@@ -13,8 +13,7 @@ ghost use lib.ListN.{length, take, drop};
 ghost use Rattle.chain.specs.Chain.{padded};
 ghost use Rattle.chain.specs.Content.{content, chainOctets};
 ghost use Rattle.chain.specs.Field.{fieldsFrom};
-ghost use Rattle.field_role.specs.Role.{noneMet};
-ghost use Rattle.field_role.proofs.Roles.{Suits};
+ghost use Rattle.field_role.specs.Role.{noneMet, SizeAllowed};
 ghost use Rattle.responder_rules.specs.Answer.{answerTo, paddingOf};
 ghost use Rattle.answer_fields.specs.Fields.{fieldsWritten};
 ghost use Rattle.answer_fields.specs.Pass.{WrittenAt, answersWith};
@@ -48,7 +47,7 @@ fn answer_to(
     out: &mut [u8],
     at: usize,
 ) -> usize
-    requires { ⌜ Suits field role × (length (now filter) ≡ 512) × (length (now information) ≡ 4)
+    requires { ⌜ SizeAllowed field role × (length (now filter) ≡ 512) × (length (now information) ≡ 4)
         × (at + (4 + padded (field .size)) ≤ length (now out)) ⌝ }
     ensures { λ r. ⌜ WrittenAt (now (out .entry)) at (chainOctets (answerTo (now (filter .entry)) (now (information .entry)) field role)) r (now (out .exit)) ⌝ }
 {

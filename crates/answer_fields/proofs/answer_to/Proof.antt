@@ -2,7 +2,8 @@
 use mathlib.Core.Path.{subst}
 use native.Mathlib.Omega.{arith}
 use Rattle.chain.specs.Content.{chainOctets, draftName}
-use Rattle.field_role.proofs.Roles.{Suits}
+use Rattle.field_role.specs.Role.{SizeAllowed}
+use Rattle.field_role.proofs.Roles.{good-parts}
 use Rattle.answer_fields.proofs.Writing.{written-none, information-whole, name-cut}
 use borrow.Author.Needs.{needs}
 use Rattle.answer_fields.proofs.answer_to.Statement.{statement}
@@ -18,7 +19,7 @@ put-field-requires : tie.Need-put-field-requires
 put-field-requires c κs =
     let at-role = c .before .before in
     let start = at-role .before .before .before .before .before in
-    let good = subst (Suits (start .args .field)) (at-role .role .given .1) (start .pre .0) in
+    let good = good-parts (at-role .role .given .0 .0) (start .args .field .size) (subst (SizeAllowed (start .args .field)) (at-role .role .given .1) (start .pre .0)) in
     let i = good .inside in
     (omega arith, omega arith, start .pre .3)
 
@@ -29,7 +30,7 @@ put-field-requires-2 : tie.Need-put-field-requires-2
 put-field-requires-2 c κs =
     let at-told = c .before in
     let start = at-told .before .before .before .before .before in
-    let four = subst (Suits (start .args .field)) (at-told .enum-told .given .1) (start .pre .0) in
+    let four = subst (SizeAllowed (start .args .field)) (at-told .enum-told .given .1) (start .pre .0) in
     (omega arith, omega arith, omega arith)
 
 enum-told-2 : tie.Need-enum-told-2
