@@ -20,8 +20,9 @@ use Rattle.chain.proofs.Contents.{chain-append}
 use Rattle.chain.proofs.Fields.{no-field, next-field}
 use Rattle.field_role.proofs.Roles.{size-allowed, metOf, met-next, role-met, unanswered-role, unanswered-met}
 use Rattle.responder_rules.specs.Answer.{answerTo, answersTo}
-use Rattle.answer_fields.specs.Pass.{WrittenAt, answersWith}
-use Rattle.answer_fields.proofs.Writing.{written-none, written-next, length-written}
+use Rattle.answer_fields.specs.Pass.{answersWith}
+use Rattle.field_write.specs.Write.{WrittenAt}
+use Rattle.field_write.proofs.Writing.{written-none, written-next, length-written}
 use Rattle.responder_rules.proofs.Room.{answer-size}
 
 module _ (s filter information : List ℕ) where
