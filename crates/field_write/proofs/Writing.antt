@@ -7,7 +7,7 @@ use native.Mathlib.Nat.{add-assoc, add-zero}
 use native.Mathlib.Omega.{arith}
 use borrow.Author.Tests.{le-leb, lt-leb}
 use lib.Dec.{leb}
-use lib.ListN.{length, take, drop, replicate, length-append, length-replicate, replicate-append-replicate, take-append-drop}
+use lib.ListN.{length, take, replicate, length-append, length-replicate, replicate-append-replicate, take-append-drop}
 use lib.Seq.{paste, length-paste, take-all, length-take-le}
 use Rattle.octets.specs.Number.{octets, putAt}
 use Rattle.octets.specs.Part.{overwrite, copyAt, zeroAt}

@@ -1,9 +1,8 @@
 -- `answer_to` meets its contract: what each role is answered with is one field, or none. Assumes nothing.
-use mathlib.Core.Path.{refl, subst}
+use mathlib.Core.Path.{subst}
 use Prim.Native.Nat.{_+_}
 use native.Mathlib.Omega.{arith}
-use lib.ListN.{length}
-use Rattle.chain.specs.Content.{content, chainOctets, draftName}
+use Rattle.chain.specs.Content.{chainOctets, draftName}
 use Rattle.field_role.specs.Role.{SizeAllowed}
 use Rattle.field_role.proofs.Roles.{Good, good-parts}
 use Rattle.field_write.proofs.Writing.{written-none}
