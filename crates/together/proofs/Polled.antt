@@ -27,9 +27,9 @@ use Rattle.client_rules.specs.Claim.{placeAfter}
 use Rattle.client_rules.proofs.Tables.{GoodTable, good-at, atPlace}
 use Rattle.client_rules.proofs.Simulate.{at-in, at-out}
 use Rattle.client_rules.proofs.Demand3.{simulates, good-reached, call-reached}
-use Rattle.together.specs.Together.{Polling, pollOf, polling, polled, callsOf, StaysOutstanding, Asks}
+use Rattle.together.specs.Together.{Polling, pollOf, polling, callsOf, StaysOutstanding, Asks}
 use Rattle.together.proofs.Served.{Ranges}
-use Rattle.together.proofs.Refused.{answer-number}
+use Rattle.together.proofs.Refused.{reply-number}
 use Rattle.together.proofs.Waiting.{askedOf, Polled, polled-place, Waits, polled-waits, calls-wait}
 
 pub record Written (k : Polling) : Type 0 where
@@ -39,7 +39,7 @@ pub record Written (k : Polling) : Type 0 where
   pub asked : Asked
   pub ranges : Ranges asked (k .cookie) (k .exponent)
   -- what is written
-  pub answer : polled k
+  pub answer : polling k .0
       ≡ writtenAnswer (pollLength (asked .chunk)) (pollOctets asked (k .cookie) (k .exponent) (k .interleaved) ++ drop (pollLength (asked .chunk)) (k .out))
   -- the place waits for its answer
   pub waits : Waits asked (k .cookie) (placeAfter (callsOf k) (k .association))
@@ -73,13 +73,13 @@ module _ (k : Polling) (h : Asks k) where
   same : polling k ≡ (stepPlain (pollOf k) places .0, encodeAll (stepPlain (pollOf k) places .1))
   same = call-reached (k .table) (h .size) (k .earlier) earlier-typed (pollOf k) (later-typed .0)
 
-  plain-answer : polled k ≡ pollAnswer (k .cookie) (k .exponent) (k .interleaved) (k .out) (atPlace a event [] places .0)
+  plain-answer : polling k .0 ≡ pollAnswer (k .cookie) (k .exponent) (k .interleaved) (k .out) (atPlace a event [] places .0)
   plain-answer = ap (λ (w : Answer × List ℕ). w .0) same
 
   not-refused : atPlace a event [] places .0 .refusal ≡ 0
   not-refused =
-      sym (answer-number (atPlace a event [] places .0 .refusal) (k .out) _ refl)
-      ∙ ap (λ (w : Answer). w .refusal) (sym plain-answer) ∙ h .taken
+      sym (reply-number (atPlace a event [] places .0 .refusal) (k .out) _ refl)
+      ∙ ap (λ (w : Answer). w .refusal) (sym plain-answer) ∙ h .success
 
   inside : a < 16
   inside = go (ltb a 16) refl

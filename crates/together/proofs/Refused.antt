@@ -27,8 +27,8 @@ event-refused a e datagram ps =
     (λ t n. refl)
 
 -- an answer that is made of a reply has its refusal
-pub answer-number : (n : ℕ) (out : List ℕ) (w : Answer) → w .refusal ≡ 0 → cond (eqb n 0) w (plainAnswer n out) .refusal ≡ n
-answer-number n out w z = go (eqb n 0) refl
+pub reply-number : (n : ℕ) (out : List ℕ) (w : Answer) → w .refusal ≡ 0 → cond (eqb n 0) w (plainAnswer n out) .refusal ≡ n
+reply-number n out w z = go (eqb n 0) refl
   where
     go : (b : Bool) → eqb n 0 ≡ b → cond b w (plainAnswer n out) .refusal ≡ n
     go true e = z ∙ sym (eqb-true _ _ e)
@@ -39,8 +39,8 @@ unfolding clearing
 call-refused clearTable ps n = absurd (true≢false n)
 call-refused (openOne a timescale c) ps n = event-refused a _ _ ps n
 call-refused (closeOne a) ps n = event-refused a _ _ ps n
-call-refused (poll a cookie exponent interleaved out) ps n = event-refused a _ _ ps (sym (ap (λ (k : ℕ). eqb k 0) (answer-number (atPlace a (Poll (record { 0 = cookie }) interleaved (length out)) [] ps .0 .refusal) out _ refl)) ∙ n)
+call-refused (poll a cookie exponent interleaved out) ps n = event-refused a _ _ ps (sym (ap (λ (k : ℕ). eqb k 0) (reply-number (atPlace a (Poll (record { 0 = cookie }) interleaved (length out)) [] ps .0 .refusal) out _ refl)) ∙ n)
 call-refused (sent a t1) ps n = event-refused a _ _ ps n
-call-refused (receive a datagram t4) ps n = event-refused a _ _ ps (sym (ap (λ (k : ℕ). eqb k 0) (answer-number (atPlace a (Receive (responseOf datagram t4)) datagram ps .0 .refusal) [] _ refl)) ∙ n)
+call-refused (receive a datagram t4) ps n = event-refused a _ _ ps (sym (ap (λ (k : ℕ). eqb k 0) (reply-number (atPlace a (Receive (responseOf datagram t4)) datagram ps .0 .refusal) [] _ refl)) ∙ n)
 call-refused (loopVerdict a id) ps n = refl
 call-refused (publish selected id out) ps n = refl
