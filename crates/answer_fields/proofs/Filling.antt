@@ -15,8 +15,9 @@ use Rattle.field_role.proofs.Roles.{met-none}
 use Rattle.store_rules.proofs.Rows.{or-none}
 use Rattle.responder_rules.specs.Answer.{answersTo, paddingOf, answerFields}
 use Rattle.answer_fields.specs.Fields.{wrongSizes, fieldsWritten}
-use Rattle.answer_fields.specs.Pass.{WrittenAt, answersWith}
-use Rattle.answer_fields.proofs.Writing.{length-written}
+use Rattle.answer_fields.specs.Pass.{answersWith}
+use Rattle.field_write.specs.Write.{WrittenAt}
+use Rattle.field_write.proofs.Writing.{length-written}
 use Rattle.answer_fields.proofs.Passes.{pass-answers}
 
 -- sizes that are not wrong

@@ -8,7 +8,7 @@ use lib.ListN.{length}
 use Rattle.chain.specs.Chain.{padded, stepAt}
 use Rattle.chain.specs.Content.{Content, chainOctets}
 use Rattle.chain.specs.Field.{fieldsFrom}
-use Rattle.field_role.specs.Role.{roleOf, noneMet, metAfter, roleWith, isAnswered}
+use Rattle.field_role.specs.Role.{roleOf, noneMet, metAfter, roleWith, isAnswered, SizeAllowed}
 use Rattle.chain.specs.declared.cursor.Cursor.{Cursor}
 use Rattle.chain.specs.declared.cursor.Field.{Field}
 use Rattle.chain.specs.declared.cursor.Step.{Step}
@@ -18,10 +18,11 @@ use Rattle.field_role.specs.declared.Role.{Role}
 use Rattle.chain.proofs.Steps.{Stopped, at-an-end, at-end, reached, place-reached}
 use Rattle.chain.proofs.Contents.{chain-append}
 use Rattle.chain.proofs.Fields.{no-field, next-field}
-use Rattle.field_role.proofs.Roles.{Suits, suits-with, metOf, met-next, role-met, unanswered-role, unanswered-met}
+use Rattle.field_role.proofs.Roles.{size-allowed, metOf, met-next, role-met, unanswered-role, unanswered-met}
 use Rattle.responder_rules.specs.Answer.{answerTo, answersTo}
-use Rattle.answer_fields.specs.Pass.{WrittenAt, answersWith}
-use Rattle.answer_fields.proofs.Writing.{written-none, written-next, length-written}
+use Rattle.answer_fields.specs.Pass.{answersWith}
+use Rattle.field_write.specs.Write.{WrittenAt}
+use Rattle.field_write.proofs.Writing.{written-none, written-next, length-written}
 use Rattle.responder_rules.proofs.Room.{answer-size}
 
 module _ (s filter information : List ℕ) where
@@ -45,7 +46,7 @@ module _ (s filter information : List ℕ) where
       rw (role-met s before f, met-next before f) (ap (λ (cs : List Content). answerTo filter information f (roleOf s before f) ++ cs) (pass-answers (before ++ (f ∷ [])) fs))
 
   -- an answer that was written over octets with room for the field that it answers
-  pub answer-written : length filter ≡ 512 → length information ≡ 4 → (f : Field) (r : Role) → Suits f r → {o t : List ℕ} {at next : ℕ}
+  pub answer-written : length filter ≡ 512 → length information ≡ 4 → (f : Field) (r : Role) → SizeAllowed f r → {o t : List ℕ} {at next : ℕ}
       → WrittenAt o at (chainOctets (answerTo filter information f r)) next t → at + (4 + padded (f .size)) ≤ length o
       → (length t ≡ length o) × (next ≤ at + (4 + padded (f .size)))
   answer-written e i f r k l h =
@@ -96,7 +97,7 @@ module _ (s filter information out₀ : List ℕ) where
       pub pass-goes-on : {role : Role} {next : ℕ} {out′ : List ℕ} {m′ : Met} → role ≡ roleWith s f m → m′ ≡ metAfter m (f .kind)
           → WrittenAt out at (chainOctets (answerTo filter information f role)) next out′ → Passing s filter information out₀ (c .at) m′ next out′
       pass-goes-on {role} {next} {out′} {m′} er em l =
-          let written = answer-written s filter information filters four f role (subst⁻¹ (Suits f) er (suits-with s f m)) l pass-room in
+          let written = answer-written s filter information filters four f role (subst⁻¹ (SizeAllowed f) er (size-allowed _ s f)) l pass-room in
           let a = p .low in
           let b = p .same in
           let r = reached s place t f c e q in

@@ -4,33 +4,18 @@ use chain::cursor::Cursor;
 use chain::cursor::Field;
 use chain::cursor::Step;
 use field_role::Role;
-use octets::number;
-use octets::part;
 ghost use mathlib.Core.Path.{_≡_};
 ghost use Prim.Native.Nat.{_+_, _-_, _%_, _≤_, min};
-ghost use mathlib.Core.List.{[], _∷_, _++_};
-ghost use lib.ListN.{length, take, drop};
+ghost use mathlib.Core.List.{_++_};
+ghost use lib.ListN.{length, take};
 ghost use Rattle.chain.specs.Chain.{padded};
-ghost use Rattle.chain.specs.Content.{content, chainOctets};
+ghost use Rattle.chain.specs.Content.{chainOctets};
 ghost use Rattle.chain.specs.Field.{fieldsFrom};
-ghost use Rattle.field_role.specs.Role.{noneMet};
-ghost use Rattle.field_role.proofs.Roles.{Suits};
+ghost use Rattle.field_role.specs.Role.{noneMet, SizeAllowed};
+ghost use Rattle.field_write.specs.Write.{WrittenAt};
 ghost use Rattle.responder_rules.specs.Answer.{answerTo, paddingOf};
 ghost use Rattle.answer_fields.specs.Fields.{fieldsWritten};
-ghost use Rattle.answer_fields.specs.Pass.{WrittenAt, answersWith};
-
-// Writes a field whose data are n octets of `source` from `from` on, and answers the place after it.
-fn put_field(kind: u16, source: &[u8], from: usize, n: usize, out: &mut [u8], at: usize) -> usize
-    requires { ⌜ (n ≤ 512) × (from + n ≤ length (now source)) × (at + (4 + padded n) ≤ length (now out)) ⌝ }
-    ensures { λ r. ⌜ WrittenAt (now (out .entry)) at (chainOctets (content kind (take n (drop from (now (source .entry)))) ∷ [])) r (now (out .exit)) ⌝ }
-{
-    let padded = (n + 3) / 4 * 4;
-    number::put16(out, at, kind);
-    number::put16(out, at + 2, n as u16 + 4);
-    part::copy(out, at + 4, source, from, n);
-    part::zero(out, at + 4 + n, padded - n);
-    at + 4 + padded
-}
+ghost use Rattle.answer_fields.specs.Pass.{answersWith};
 
 // How many octets of our name answer a name of k.
 fn name_octets(k: usize) -> usize
@@ -48,15 +33,22 @@ fn answer_to(
     out: &mut [u8],
     at: usize,
 ) -> usize
-    requires { ⌜ Suits field role × (length (now filter) ≡ 512) × (length (now information) ≡ 4)
+    requires { ⌜ SizeAllowed field role × (length (now filter) ≡ 512) × (length (now information) ≡ 4)
         × (at + (4 + padded (field .size)) ≤ length (now out)) ⌝ }
     ensures { λ r. ⌜ WrittenAt (now (out .entry)) at (chainOctets (answerTo (now (filter .entry)) (now (information .entry)) field role)) r (now (out .exit)) ⌝ }
 {
     let n = field.size;
     match role {
-        Role::FilterRequest(offset) => put_field(0xF504, filter, offset as usize, n, out, at),
-        Role::Information => put_field(0xF505, information, 0, 4, out, at),
-        Role::DraftName => put_field(0xF5FF, &DRAFT_NAME, 0, name_octets(n), out, at),
+        Role::FilterRequest(offset) => {
+            let from = offset as usize;
+            field_write::put(out, at, 0xF504, &filter[from..from + n], 0)
+        }
+        Role::Information => field_write::put(out, at, 0xF505, information, 0),
+        Role::DraftName => {
+            let name = DRAFT_NAME;
+            let k = name_octets(n);
+            field_write::put(out, at, 0xF5FF, &name[0..k], 0)
+        }
         Role::Unknown => at,
     }
 }
@@ -93,9 +85,7 @@ fn pad(out: &mut [u8], at: usize)
 {
     let n = out.len();
     if at < n {
-        number::put16(out, at, 0xF501);
-        number::put16(out, at + 2, (n - at) as u16);
-        part::zero(out, at + 4, n - at - 4);
+        field_write::put(out, at, 0xF501, &[], n - at - 4);
     }
 }
 

@@ -5,8 +5,11 @@ use client::Published;
 use filter_weight::Weighing;
 use responder_rules::Answered;
 ghost use mathlib.Core.Path.{_≡_};
-ghost use Rattle.client.specs.Answers.{isInterleaved};
-ghost use Rattle.c_structs.specs.Numbers.{ofPolled, ofPublished, ofReceived, ofVerdict, ofAnswered, ofWeighing};
+ghost use mathlib.Core.List.{[]};
+ghost use Rattle.filter_weight.specs.Weighing.{numbers};
+ghost use Rattle.client.specs.Answers.{isInterleaved, polledAnswer, publishedAnswer, receivedAnswer, verdictAnswerOf};
+ghost use Rattle.responder_rules.specs.Answer.{outcome};
+ghost use Rattle.c_structs.specs.Numbers.{writtenNumbers, receivedNumbers, verdictNumbers, outcomeNumbers, weightNumbers};
 
 // How many octets were written; 0 in a refusal.
 #[repr(C)]
@@ -50,7 +53,7 @@ pub fn mode(interleaved: bool) -> Mode
 }
 
 pub fn of_polled(polled: Polled) -> Written
-    ensures { λ r. ⌜ r ≡ ofPolled polled ⌝ }
+    ensures { λ r. ⌜ writtenNumbers r [] ≡ polledAnswer polled [] ⌝ }
 {
     match polled {
         Polled::Written(length) => Written { refusal: 0, length },
@@ -59,7 +62,7 @@ pub fn of_polled(polled: Polled) -> Written
 }
 
 pub fn of_published(published: Published) -> Written
-    ensures { λ r. ⌜ r ≡ ofPublished published ⌝ }
+    ensures { λ r. ⌜ writtenNumbers r [] ≡ publishedAnswer published [] ⌝ }
 {
     match published {
         Published::Written => Written {
@@ -71,7 +74,7 @@ pub fn of_published(published: Published) -> Written
 }
 
 pub fn of_answered(answered: Answered) -> Written
-    ensures { λ r. ⌜ r ≡ ofAnswered answered ⌝ }
+    ensures { λ r. ⌜ outcomeNumbers r [] [] ≡ outcome answered [] [] ⌝ }
 {
     match answered {
         Answered::Written(length) => Written { refusal: 0, length },
@@ -80,7 +83,7 @@ pub fn of_answered(answered: Answered) -> Written
 }
 
 pub fn of_received(received: client::Received) -> Received
-    ensures { λ r. ⌜ r ≡ ofReceived received ⌝ }
+    ensures { λ r. ⌜ receivedNumbers r ≡ receivedAnswer received ⌝ }
 {
     match received {
         client::Received::Accepted(measured) => Received {
@@ -101,7 +104,7 @@ pub fn of_received(received: client::Received) -> Received
 }
 
 pub fn of_verdict(verdict: client::Verdict) -> Verdict
-    ensures { λ r. ⌜ r ≡ ofVerdict verdict ⌝ }
+    ensures { λ r. ⌜ verdictNumbers r ≡ verdictAnswerOf verdict ⌝ }
 {
     match verdict {
         client::Verdict::Incomplete => Verdict {
@@ -124,7 +127,7 @@ pub fn of_verdict(verdict: client::Verdict) -> Verdict
 }
 
 pub fn of_weighing(weighing: Weighing) -> Weight
-    ensures { λ r. ⌜ r ≡ ofWeighing weighing ⌝ }
+    ensures { λ r. ⌜ weightNumbers r ≡ numbers weighing ⌝ }
 {
     match weighing {
         Weighing::Weight(weight) => Weight { refusal: 0, weight },

@@ -2,12 +2,13 @@
 use mathlib.Core.Path.{_≡_}
 use mathlib.Core.Bool.{Bool, true, _&&_, _||_}
 use mathlib.Core.List.{List}
-use Prim.Native.Nat.{ℕ, _≤_}
+use Prim.Native.Nat.{ℕ}
 use native.Mathlib.Omega.{arith}
 use borrow.Author.Tests.{eqb-false, ltb-false}
 use lib.Dec.{eqb, ltb}
 use lib.ListN.{length, drop}
 use Rattle.poll_request.specs.Request.{pollLength}
+use Rattle.poll_request.proofs.Requests.{Writable}
 use Rattle.state.specs.Range.{inRange}
 use Rattle.association.specs.Record.{headOf, headSize, recordSize}
 use Rattle.state.specs.Plain.{Place, isLast, placeDo}
@@ -17,19 +18,15 @@ use Rattle.association.specs.Step.{onOctets}
 use Rattle.state.specs.declared.event.Event.the-variants.{Poll}
 use Rattle.state.specs.declared.event.Reply.{Reply}
 use Rattle.state.specs.declared.head.Head.{Head}
+use Rattle.state.proofs.Chunks.{chunk-size}
 use Rattle.state.proofs.Ranges.{and-right, open-ranges}
 use Rattle.client_rules.specs.Octets.{tableSize, part, atOctets}
 use Rattle.client_rules.specs.Step.{eventOn}
 use Rattle.state.proofs.Tests.{by-test}
 
-pub record Room (r : Reply) (room : ℕ) : Type 0 where
-  pub low : 16 ≤ r .asked .chunk
-  pub high : r .asked .chunk ≤ 512
-  pub fits : pollLength (r .asked .chunk) ≤ room
-
 module _ (cookie : ℕ) (interleaved : Bool) (room : ℕ) where
   abbrev Fits : Reply → Type 0
-  Fits r = r .refusal ≡ 0 → Room r room
+  Fits r = r .refusal ≡ 0 → Writable (r .asked .chunk) room
 
   abbrev ReplyFits : Reply × Place → Type 0
   ReplyFits w = Fits (w .0)
@@ -40,7 +37,9 @@ module _ (cookie : ℕ) (interleaved : Bool) (room : ℕ) where
       by-test (λ (p : Place). Fits (placeDo (Poll (record { 0 = cookie }) interleaved room) datagram p .0)) (eqb (h .state) 0) (λ t z. absurd (omega arith))
       (λ t. by-test ReplyFits (eqb cookie 0 || isLast cookie (cookieIn (h .last .0))) (λ u z. absurd (omega arith))
       (λ u. by-test ReplyFits (ltb room (pollLength (h .chunk))) (λ v z. absurd (omega arith))
-      (λ v z. let o = open-ranges h g (eqb-false _ _ t) in record { low = o .chunk-low; high = o .chunk-high; fits = ltb-false _ _ v })))
+      (λ v z.
+      let size = chunk-size (h .chunk) (open-ranges h g (eqb-false _ _ t) .chunk) in
+      record { least = size .low; most = size .high; four = size .fours; fits = ltb-false _ _ v })))
 
   record-room : (datagram l : List ℕ) → Fits (onOctets (Poll (record { 0 = cookie }) interleaved room) datagram l .0)
   unfolding onOctets decode

@@ -1,13 +1,13 @@
--- Three flags tell what a responder has to know of the fields before, and what a role says of its field. Assumes nothing.
+-- Three flags are all that a responder has to know of the fields before, and each field has the size that its role allows. Assumes nothing.
 use mathlib.Core.Path.{_≡_, refl, sym, ap, _∙_}
-use mathlib.Core.Bool.{Bool, true, false, cond, _&&_, _||_, false≢true, or-assoc, or-false}
+use mathlib.Core.Bool.{Bool, true, false, cond, _||_, false≢true, or-assoc, or-false, and-eq-true-iff}
 use mathlib.Core.List.{List, [], _∷_, _++_}
 use Prim.Native.Nat.{ℕ, _+_, _%_, _≤_}
 use native.Mathlib.Omega.{arith}
 use borrow.Author.Tests.{eq-eqb, eqb-true, le-leb, leb-true}
-use lib.Dec.{eqb, leb}
+use lib.Dec.{eqb}
 use Rattle.octets.specs.Number.{getAt}
-use Rattle.field_role.specs.Role.{requestRole, firstRole, alreadyMet, roleOf, noneMet, metAfter, roleWith, isAnswered}
+use Rattle.field_role.specs.Role.{goodRequest, requestRole, alreadyMet, roleGiven, roleOf, noneMet, metAfter, roleWith, isAnswered, SizeAllowed}
 use Rattle.chain.specs.declared.cursor.Field.{Field}
 use Rattle.field_role.specs.declared.Met.{Met}
 use Rattle.field_role.specs.declared.Role.{Role}
@@ -44,9 +44,9 @@ both-unknown : (b : Bool) → Unknown ≡ cond b Unknown Unknown
 both-unknown true = refl
 both-unknown false = refl
 
--- asking at the type that was met, or at each known type
+-- by the flag of its type or by whether its type was met, a field means the same: a field of a type without a flag is unknown in any case
 at-type : (kind : ℕ) (met : ℕ → Bool) (x y z : Role) (a b c : Bool) → (a ≡ true → kind ≡ 0xF503) → (b ≡ true → kind ≡ 0xF505) → (c ≡ true → kind ≡ 0xF5FF)
-    → cond a (cond (met 0xF503) Unknown x) (cond b (cond (met 0xF505) Unknown y) (cond c (cond (met 0xF5FF) Unknown z) Unknown))
+    → cond (cond a (met 0xF503) (cond b (met 0xF505) (cond c (met 0xF5FF) false))) Unknown (cond a x (cond b y (cond c z Unknown)))
     ≡ cond (met kind) Unknown (cond a x (cond b y (cond c z Unknown)))
 at-type kind met x y z true b c p q r = rw (p refl)
 at-type kind met x y z false true c p q r = rw (q refl)
@@ -55,7 +55,7 @@ at-type kind met x y z false false false p q r = both-unknown (met kind)
 
 -- the role by the flags is the role by the fields before
 pub role-met : (s : List ℕ) (before : List Field) (f : Field) → roleWith s f (metOf before) ≡ roleOf s before f
-unfolding roleWith roleOf
+unfolding roleGiven
 role-met s before f =
     at-type (f .kind) (λ (k : ℕ). alreadyMet k before) _ _ _ (eqb (f .kind) 0xF503) (eqb (f .kind) 0xF505) (eqb (f .kind) 0xF5FF)
     (eqb-true _ _) (eqb-true _ _) (eqb-true _ _)
@@ -71,7 +71,7 @@ module _ (f : Field) (m : Met) (e : isAnswered (f .kind) ≡ false) where
   others = none-of (eqb (f .kind) 0xF503) (eqb (f .kind) 0xF505) (eqb (f .kind) 0xF5FF) e
 
   pub unanswered-role : (s : List ℕ) → Unknown ≡ roleWith s f m
-  unfolding roleWith
+  unfolding roleGiven
   unanswered-role s = rw (others .0, others .1, others .2)
 
   pub unanswered-met : m ≡ metAfter m (f .kind)
@@ -87,62 +87,33 @@ pub record Good (offset n : ℕ) : Type 0 where
   pub least : 4 ≤ n
   pub inside : offset + n ≤ 512
 
+pub good-parts : (offset n : ℕ) → goodRequest offset n ≡ true → Good offset n
+good-parts offset n e =
+    let three = and-eq-true-iff _ _ .0 e in
+    let two = and-eq-true-iff _ _ .0 (three .0) in
+    let one = and-eq-true-iff _ _ .0 (two .0) in
+    record { four = eqb-true _ _ (one .0); least = leb-true _ _ (one .1); inside = leb-true _ _ (three .1) }
+
 -- it has its role
 pub good-role : (offset n : ℕ) → Good offset n → requestRole offset n ≡ FilterRequest offset
 good-role offset n g =
     let inside = g .inside in
     rw (eq-eqb _ _ (g .four), le-leb _ _ (g .least), le-leb n 512 (omega arith), le-leb _ _ inside)
 
--- what a field has to be for its role
-abbrev pub Suits : Field → Role → Type 0
-Suits f (FilterRequest offset) = Good offset (f .size)
-Suits f Information = f .size ≡ 4
-Suits f DraftName = Unit {0}
-Suits f Unknown = Unit {0}
-
-suits-request : (f : Field) (offset : ℕ) → Suits f (requestRole offset (f .size))
-suits-request f offset = go (eqb (f .size % 4) 0) (leb 4 (f .size)) (leb (f .size) 512) (leb (offset + f .size) 512) refl refl refl
+-- each field has the size that its role allows
+pub size-allowed : (met : Bool) (s : List ℕ) (f : Field) → SizeAllowed f (roleGiven met s f)
+unfolding roleGiven
+size-allowed true s f = tt
+size-allowed false s f = by-kind (eqb (f .kind) 0xF503) (eqb (f .kind) 0xF505) (eqb (f .size) 4) (eqb (f .kind) 0xF5FF) refl
   where
-    go : (a b c d : Bool) → eqb (f .size % 4) 0 ≡ a → leb 4 (f .size) ≡ b → leb (offset + f .size) 512 ≡ d
-        → Suits f (cond (a && b && c && d) (FilterRequest offset) Unknown)
-    go true true true true p q r = record { four = eqb-true _ _ p; least = leb-true _ _ q; inside = leb-true _ _ r }
-    go true true true false p q r = tt
-    go true true false d p q r = tt
-    go true false c d p q r = tt
-    go false b c d p q r = tt
+    request : (offset : ℕ) (b : Bool) → goodRequest offset (f .size) ≡ b → SizeAllowed f (cond b (FilterRequest offset) Unknown)
+    request offset true e = e
+    request offset false e = tt
 
-suits-first : (s : List ℕ) (f : Field) → Suits f (firstRole s f)
-suits-first s f = go (eqb (f .kind) 0xF503) (eqb (f .kind) 0xF505) (eqb (f .size) 4) (eqb (f .kind) 0xF5FF) refl
-  where
-    go : (a b c d : Bool) → eqb (f .size) 4 ≡ c
-        → Suits f (cond a (requestRole (getAt s (f .start) 2) (f .size)) (cond b (cond c Information Unknown) (cond d DraftName Unknown)))
-    go true b c d e = suits-request f (getAt s (f .start) 2)
-    go false true true d e = eqb-true _ _ e
-    go false true false d e = tt
-    go false false c true e = tt
-    go false false c false e = tt
-
--- each field suits the role that it has
-pub suits : (s : List ℕ) (before : List Field) (f : Field) → Suits f (roleOf s before f)
-unfolding roleOf
-suits s before f = go (alreadyMet (f .kind) before)
-  where
-    go : (b : Bool) → Suits f (cond b Unknown (firstRole s f))
-    go true = tt
-    go false = suits-first s f
-
--- also the role that three flags tell
-pub suits-with : (s : List ℕ) (f : Field) (m : Met) → Suits f (roleWith s f m)
-unfolding roleWith
-suits-with s f m = go (eqb (f .kind) 0xF503) (eqb (f .kind) 0xF505) (eqb (f .size) 4) (eqb (f .kind) 0xF5FF) (m .request) (m .information) (m .name) refl
-  where
-    go : (a b c d p q r : Bool) → eqb (f .size) 4 ≡ c
-        → Suits f (cond a (cond p Unknown (requestRole (getAt s (f .start) 2) (f .size))) (cond b (cond q Unknown (cond c Information Unknown)) (cond d (cond r Unknown DraftName) Unknown)))
-    go true b c d true q r e = tt
-    go true b c d false q r e = suits-request f (getAt s (f .start) 2)
-    go false true c d p true r e = tt
-    go false true true d p false r e = eqb-true _ _ e
-    go false true false d p false r e = tt
-    go false false c true p q true e = tt
-    go false false c true p q false e = tt
-    go false false c false p q r e = tt
+    by-kind : (a b c d : Bool) → eqb (f .size) 4 ≡ c
+        → SizeAllowed f (cond a (requestRole (getAt s (f .start) 2) (f .size)) (cond b (cond c Information Unknown) (cond d DraftName Unknown)))
+    by-kind true b c d e = request (getAt s (f .start) 2) (goodRequest (getAt s (f .start) 2) (f .size)) refl
+    by-kind false true true d e = eqb-true _ _ e
+    by-kind false true false d e = tt
+    by-kind false false c true e = tt
+    by-kind false false c false e = tt

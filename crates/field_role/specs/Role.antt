@@ -1,5 +1,6 @@
 -- Which fields of a request mean something to a responder, and which are unknown and skipped.
-use mathlib.Core.Bool.{Bool, false, cond, _&&_, _||_}
+use mathlib.Core.Path.{_≡_}
+use mathlib.Core.Bool.{Bool, true, false, cond, _&&_, _||_}
 use mathlib.Core.List.{List, [], _∷_}
 use Prim.Native.Nat.{ℕ, _+_, _%_}
 use lib.Dec.{eqb, leb}
@@ -30,9 +31,13 @@ unfoldable pub alreadyMet : ℕ → List Field → Bool
 alreadyMet kind [] = false
 alreadyMet kind (f ∷ before) = eqb (f .kind) kind || alreadyMet kind before
 
--- a second field of a type already met is unknown, also where the first wasn't good
-unfoldable pub roleOf : List ℕ → List Field → Field → Role
-roleOf s before f = cond (alreadyMet (f .kind) before) Unknown (firstRole s f)
+-- what a field means, given whether one of its type stands before it: a second field of a type already met is unknown, also where
+-- the first wasn't good
+unfoldable pub roleGiven : Bool → List ℕ → Field → Role
+roleGiven met s f = cond met Unknown (firstRole s f)
+
+abbrev pub roleOf : List ℕ → List Field → Field → Role
+roleOf s before f = roleGiven (alreadyMet (f .kind) before) s f
 
 -- the same from three flags, which are all that a responder has to keep of the fields before
 
@@ -46,12 +51,23 @@ metAfter m kind = record {
   name = m .name || eqb kind 0xF5FF;
 }
 
-unfoldable pub roleWith : List ℕ → Field → Met → Role
-roleWith s f m =
-    cond (eqb (f .kind) 0xF503) (cond (m .request) Unknown (requestRole (getAt s (f .start) 2) (f .size)))
-    (cond (eqb (f .kind) 0xF505) (cond (m .information) Unknown (cond (eqb (f .size) 4) Information Unknown))
-    (cond (eqb (f .kind) 0xF5FF) (cond (m .name) Unknown DraftName)
-    Unknown))
+-- the flag of a type; a field of a type without one is unknown in any case
+abbrev pub flagOf : Met → ℕ → Bool
+flagOf m kind =
+    cond (eqb kind 0xF503) (m .request)
+    (cond (eqb kind 0xF505) (m .information)
+    (cond (eqb kind 0xF5FF) (m .name)
+    false))
+
+abbrev pub roleWith : List ℕ → Field → Met → Role
+roleWith s f m = roleGiven (flagOf m (f .kind)) s f
+
+-- the size that a field has to have for its role
+abbrev pub SizeAllowed : Field → Role → Type 0
+SizeAllowed f (FilterRequest offset) = goodRequest offset (f .size) ≡ true
+SizeAllowed f Information = f .size ≡ 4
+SizeAllowed f DraftName = Unit {0}
+SizeAllowed f Unknown = Unit {0}
 
 -- the types that a responder answers: a field of any other is unknown, and changes no flag
 abbrev pub isAnswered : ℕ → Bool

@@ -15,11 +15,11 @@ use Rattle.header.proofs.RoundTrip.{length-header, read-written, version-writte
 use Rattle.chain.specs.Chain.{soundRefusal, chainRefusal}
 use Rattle.chain.specs.Field.{fieldsOf}
 use Rattle.chain.specs.Content.{Content, chainOctets, AllFit, placed, contentsOf}
-use Rattle.field_role.specs.Role.{roleOf}
+use Rattle.field_role.specs.Role.{roleOf, SizeAllowed}
 use Rattle.chain.specs.declared.cursor.Field.{Field}
 use Rattle.field_role.specs.declared.Role.the-variants.{FilterRequest}
 use Rattle.chain.proofs.Datagrams.{header-passes, sound-datagram}
-use Rattle.field_role.proofs.Roles.{Suits, suits}
+use Rattle.field_role.proofs.Roles.{good-parts, size-allowed}
 use Rattle.chain.proofs.Contents.{fit-append, chain-fours, length-chain-append, fields-written, chain-written, contents-written}
 use Rattle.store_rules.specs.Row.{Record, timeOf}
 use Rattle.responder_rules.specs.Answer.{Given, wantsInterleaved, savedTime, sentHeader, answersTo, paddingOf, answerFields, answerOctets, asking, sentFields}
@@ -66,7 +66,7 @@ module _ (g : Given) (a : Accepted g) where
   responses : (before : List Field) (f : Field) (offset : ℕ) → roleOf (g .request) before f ≡ FilterRequest offset
       → length (take (f .size) (drop offset (g .filter))) ≡ f .size
   responses before f offset e =
-      let good = subst (Suits f) e (suits (g .request) before f) in
+      let good = good-parts offset (f .size) (subst (SizeAllowed f) e (size-allowed _ (g .request) f)) in
       response-length (g .filter) offset (f .size) (a .filter) (good .inside)
 
   module _ (row : List Record) where

@@ -10,13 +10,13 @@ use lib.ListN.{length, take, drop, replicate, length-take, length-drop, length-r
 use Rattle.chain.specs.Chain.{padded, stepAt, Walk, onStep, walkFor, walk}
 use Rattle.chain.specs.Field.{fieldsFrom}
 use Rattle.chain.specs.Content.{content, chainOctets, AllFit, draftName}
-use Rattle.field_role.specs.Role.{roleOf}
+use Rattle.field_role.specs.Role.{roleOf, SizeAllowed}
 use Rattle.chain.specs.declared.cursor.Field.{Field}
 use Rattle.chain.specs.declared.cursor.Step.{Step}
 use Rattle.field_role.specs.declared.Role.{Role}
 use Rattle.field_role.specs.declared.Role.the-variants.{FilterRequest, Information, DraftName, Unknown}
 use Rattle.chain.proofs.Steps.{lengthAt, View, ended, cut, few, past, nonzero, sound, view}
-use Rattle.field_role.proofs.Roles.{Suits, suits}
+use Rattle.field_role.proofs.Roles.{good-parts, size-allowed}
 use Rattle.chain.proofs.Contents.{fit-append, length-chain-one, length-chain-append}
 use Rattle.responder_rules.specs.Answer.{answerTo, answersTo, paddingOf}
 
@@ -38,17 +38,17 @@ pub name-length : (n : ℕ) → length (take n draftName) ≤ n
 name-length n = rw length-take (omega arith)
 
 module _ (request filter information : List ℕ) (octets : length filter ≡ 512) (four : length information ≡ 4) where
-  -- what answers a field that suits its role takes no more than the field
-  pub answer-size : (f : Field) (r : Role) → Suits f r → length (chainOctets (answerTo filter information f r)) ≤ 4 + padded (f .size)
+  -- what answers a field of a size that its role allows takes no more than the field
+  pub answer-size : (f : Field) (r : Role) → SizeAllowed f r → length (chainOctets (answerTo filter information f r)) ≤ 4 + padded (f .size)
   answer-size f (FilterRequest offset) h =
-      let inside = h .inside in
+      let inside = good-parts offset (f .size) h .inside in
       omega (arith, length-chain-one (content 0xF504 (take (f .size) (drop offset filter))), response-length filter offset (f .size) octets inside)
   answer-size f Information h = omega (arith, length-chain-one (content 0xF505 information))
   answer-size f DraftName h = omega (arith, length-chain-one (content 0xF5FF (take (f .size) draftName)), name-length (f .size))
   answer-size f Unknown h = omega (arith, empty-chain)
 
   pub answer-fits : (s : List ℕ) (before : List Field) (f : Field) → length (chainOctets (answerTo filter information f (roleOf s before f))) ≤ 4 + padded (f .size)
-  answer-fits s before f = answer-size f (roleOf s before f) (suits s before f)
+  answer-fits s before f = answer-size f (roleOf s before f) (size-allowed _ s f)
 
   -- a field and those after it
   more : (before : List Field) (f : Field) (fs : List Field) (at n size : ℕ) → n ≡ at + 4 + padded (f .size)
@@ -84,9 +84,9 @@ module _ (request filter information : List ℕ) (octets : length filter ≡ 512
   unfolding walk
   answers-fit s before at h = in-turns (length s) s before at h
 
-  fit-role : (f : Field) (r : Role) → Suits f r → AllFit (answerTo filter information f r)
+  fit-role : (f : Field) (r : Role) → SizeAllowed f r → AllFit (answerTo filter information f r)
   fit-role f (FilterRequest offset) h =
-      let inside = h .inside in
+      let inside = good-parts offset (f .size) h .inside in
       (record { kind = lit< tt; long = omega (arith, response-length filter offset (f .size) octets inside) }, tt)
   fit-role f Information h = (record { kind = lit< tt; long = omega arith }, tt)
   fit-role f DraftName h = (record { kind = lit< tt; long = omega (arith, name-long (f .size)) }, tt)
@@ -99,7 +99,7 @@ module _ (request filter information : List ℕ) (octets : length filter ≡ 512
   all-fit before (f ∷ fs) =
       let r = roleOf request before f in
       fit-append (answerTo filter information f r) (answersTo request filter information (before ++ (f ∷ [])) fs)
-      (fit-role f r (suits request before f)) (all-fit (before ++ (f ∷ [])) fs)
+      (fit-role f r (size-allowed _ request f)) (all-fit (before ++ (f ∷ [])) fs)
 
 -- the padding field fills what is left, a multiple of four
 

@@ -74,7 +74,7 @@ module _ (k : Polling) (h : Asks k) (g : Given) (store out : List ℕ) (n : Answ
   request = n .request ∙ rw (w .answer) (take-at poll (drop (pollLength (q .chunk)) (k .out)) (pollLength (q .chunk)) poll-long)
 
   passes : answerRefusal g store out ≡ 0
-  passes = sym (answer-number g store out) ∙ n .taken
+  passes = sym (answer-number g store out) ∙ n .success
 
   abbrev answer : List ℕ
   answer = answerOctets g (rowOf store)
@@ -114,8 +114,8 @@ module _ (k : Polling) (h : Asks k) (g : Given) (store out : List ℕ) (n : Answ
         ap (λ (x : Reply × List Place). (receiveAnswer (x .0), x .1)) (at-in a (Receive r) answer places (w .inside))
         ∙ ap (λ (x : Reply × Place). (receiveAnswer (x .0), set places a (x .1))) (accepted-by q (k .cookie) (g .filter) answer before (w .waits) serves t4 nonzero)
 
-    came : receiving k answer t4 ≡ (receiveAnswer (replyOf r o asked), encodeAll (set places a (opened (received r answer o asked))))
-    came =
+    received-so : receiving k answer t4 ≡ (receiveAnswer (replyOf r o asked), encodeAll (set places a (opened (received r answer o asked))))
+    received-so =
         call-reached (k .table) (h .size) (callsOf k) (h .typed) (receive a answer t4) typed
         ∙ ap (λ (x : Answer × List Place). (x .0, encodeAll (x .1))) plain
 
@@ -164,14 +164,14 @@ module _ (k : Polling) (h : Asks k) (g : Given) (store out : List ℕ) (n : Answ
         let c = chunk-written in
         let next = opened (received r answer o asked) in
         let u : a < length places = omega (arith, good .sixteen, w .inside) in
-        ap (λ (x : Answer × List ℕ). getD (x .1) (filterPlace a i) 0) came
+        ap (λ (x : Answer × List ℕ). getD (x .1) (filterPlace a i) 0) received-so
         ∙ octet-at (set places a next) a i good-after (w .inside) (omega arith)
         ∙ ap (λ (p : Place). getD (placeFilter p) i 0) (getD-set-same places a next closed u) ∙ octet-left i (omega arith) (omega arith)
 
     exchanged : Exchanged k g store out t4
     exchanged = record {
-      accepted = rw sent (ap (λ (x : Answer × List ℕ). x .0 .refusal) came);
-      taken = rw sent (ap (λ (x : Answer × List ℕ). x .0 .chunk) came ∙ taken);
+      accepted = rw sent (ap (λ (x : Answer × List ℕ). x .0 .refusal) received-so);
+      taken = rw sent (ap (λ (x : Answer × List ℕ). x .0 .chunk) received-so ∙ taken);
       filter = rw sent filter-taken;
     }
 

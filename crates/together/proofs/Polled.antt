@@ -1,12 +1,11 @@
 -- What a poll that is not refused asks, writes and leaves. Assumes nothing.
 use mathlib.Core.Path.{_≡_, refl, sym, ap, _∙_, subst, subst⁻¹}
-use mathlib.Core.Bool.{Bool, true, false, cond}
+use mathlib.Core.Bool.{Bool, true, false}
 use mathlib.Core.List.{List, [], _∷_, _++_}
 use Prim.Native.Nat.{ℕ, _+_, _<_}
 use native.Mathlib.Omega.{arith}
-use borrow.Author.Tests.{eqb-true, ltb-true, ltb-false}
-use lib.Dec.{eqb, ltb}
-use lib.IntN.{ℤ}
+use borrow.Author.Tests.{ltb-true, ltb-false}
+use lib.Dec.{ltb}
 use lib.ListN.{length, getD, set, drop}
 use lib.Seq.{getD-set-same}
 use Rattle.poll_request.specs.Request.{pollOctets, pollLength}
@@ -21,14 +20,16 @@ use Rattle.association.proofs.Encoding.{place-fits}
 use Rattle.order.specs.Order.{TaggedCall, after, EveryCall}
 use Rattle.order.proofs.Permutations.{every-left, every-right}
 use Rattle.order.proofs.Simulate.{after-append}
-use Rattle.client_rules.specs.Call.{Call, Typed, Answer, plainAnswer, writtenAnswer, pollAnswer}
+use Rattle.client_rules.specs.Call.{Call, Typed, Answer, writtenAnswer, pollAnswer}
+use Rattle.client_rules.specs.Octets.{encodeAll}
 use Rattle.client_rules.specs.Plain.{closedTable, stepPlain}
 use Rattle.client_rules.specs.Claim.{placeAfter}
 use Rattle.client_rules.proofs.Tables.{GoodTable, good-at, atPlace}
 use Rattle.client_rules.proofs.Simulate.{at-in, at-out}
 use Rattle.client_rules.proofs.Demand3.{simulates, good-reached, call-reached}
-use Rattle.together.specs.Together.{Polling, pollOf, polled, callsOf, Asks}
+use Rattle.together.specs.Together.{Polling, pollOf, polling, callsOf, StaysOutstanding, Asks}
 use Rattle.together.proofs.Served.{Ranges}
+use Rattle.together.proofs.Refused.{reply-number}
 use Rattle.together.proofs.Waiting.{askedOf, Polled, polled-place, Waits, polled-waits, calls-wait}
 
 pub record Written (k : Polling) : Type 0 where
@@ -38,18 +39,10 @@ pub record Written (k : Polling) : Type 0 where
   pub asked : Asked
   pub ranges : Ranges asked (k .cookie) (k .exponent)
   -- what is written
-  pub answer : polled k
+  pub answer : polling k .0
       ≡ writtenAnswer (pollLength (asked .chunk)) (pollOctets asked (k .cookie) (k .exponent) (k .interleaved) ++ drop (pollLength (asked .chunk)) (k .out))
   -- the place waits for its answer
   pub waits : Waits asked (k .cookie) (placeAfter (callsOf k) (k .association))
-
--- a poll answers its refusal
-poll-number : (cookie : ℕ) (exponent : ℤ) (interleaved : Bool) (out : List ℕ) (r : Reply) → pollAnswer cookie exponent interleaved out r .refusal ≡ r .refusal
-poll-number cookie exponent interleaved out r = go (eqb (r .refusal) 0) refl _ refl
-  where
-    go : (b : Bool) → eqb (r .refusal) 0 ≡ b → (w : Answer) → w .refusal ≡ 0 → cond b w (plainAnswer (r .refusal) out) .refusal ≡ r .refusal
-    go true e w z = z ∙ sym (eqb-true _ _ e)
-    go false e w z = refl
 
 module _ (k : Polling) (h : Asks k) where
   abbrev a : ℕ
@@ -76,14 +69,17 @@ module _ (k : Polling) (h : Asks k) where
   good : GoodTable places
   good = good-reached (k .earlier) earlier-typed
 
-  -- the answer is that of the plain table
-  plain-answer : polled k ≡ pollAnswer (k .cookie) (k .exponent) (k .interleaved) (k .out) (atPlace a event [] places .0)
-  plain-answer = ap (λ (w : Answer × List ℕ). w .0) (call-reached (k .table) (h .size) (k .earlier) earlier-typed (pollOf k) (later-typed .0))
+  -- the answer is that of the plain table, and so is the table that is left
+  same : polling k ≡ (stepPlain (pollOf k) places .0, encodeAll (stepPlain (pollOf k) places .1))
+  same = call-reached (k .table) (h .size) (k .earlier) earlier-typed (pollOf k) (later-typed .0)
+
+  plain-answer : polling k .0 ≡ pollAnswer (k .cookie) (k .exponent) (k .interleaved) (k .out) (atPlace a event [] places .0)
+  plain-answer = ap (λ (w : Answer × List ℕ). w .0) same
 
   not-refused : atPlace a event [] places .0 .refusal ≡ 0
   not-refused =
-      sym (poll-number (k .cookie) (k .exponent) (k .interleaved) (k .out) (atPlace a event [] places .0))
-      ∙ ap (λ (w : Answer). w .refusal) (sym plain-answer) ∙ h .taken
+      sym (reply-number (atPlace a event [] places .0 .refusal) (k .out) _ refl)
+      ∙ ap (λ (w : Answer). w .refusal) (sym plain-answer) ∙ h .success
 
   inside : a < 16
   inside = go (ltb a 16) refl
@@ -135,8 +131,9 @@ module _ (k : Polling) (h : Asks k) where
   unfolding after
   waits =
       subst⁻¹ (λ (ps : List Place). Waits (askedOf (k .interleaved) o) (k .cookie) (getD ps a closed)) (after-append stepPlain (k .earlier) (call ∷ k .between) closedTable)
-      (calls-wait (askedOf (k .interleaved) o) (k .cookie) a inside (k .between) (stepPlain (pollOf k) places .1) (later-typed .1) (h .outstanding)
+      (calls-wait (askedOf (k .interleaved) o) (k .cookie) a inside (k .between) (stepPlain (pollOf k) places .1) (later-typed .1)
       (simulates .invariant (pollOf k) places (later-typed .0) good)
+      (subst (λ (w : Answer × List ℕ). StaysOutstanding a (k .between) (w .1)) same (h .outstanding))
       (subst⁻¹ (Waits (askedOf (k .interleaved) o) (k .cookie)) left (polled-waits (k .cookie) (k .interleaved) o)))
 
   pub written : Written k

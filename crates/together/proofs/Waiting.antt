@@ -18,12 +18,14 @@ use Rattle.state.specs.declared.event.Event.the-variants.{Poll, Sent}
 use Rattle.state.specs.declared.event.Reply.{Reply}
 use Rattle.association.proofs.Reached.{by-request}
 use Rattle.order.specs.Order.{TaggedCall, after, EveryCall}
-use Rattle.client_rules.specs.Call.{Call, clearTable, openOne, closeOne, poll, sent, receive, loopVerdict, publish, Typed}
+use Rattle.client_rules.specs.Call.{Call, clearTable, openOne, closeOne, poll, sent, receive, loopVerdict, publish, Typed, Answer}
+use Rattle.client_rules.specs.Octets.{encodeAll}
 use Rattle.client_rules.specs.Plain.{stepPlain}
 use Rattle.client_rules.proofs.Tables.{GoodTable, atPlace}
 use Rattle.client_rules.proofs.Simulate.{at-in, at-other}
 use Rattle.client_rules.proofs.Demand3.{simulates}
-use Rattle.together.specs.Together.{leavesRequest}
+use Rattle.together.specs.Together.{leavesOutstanding, StaysOutstanding}
+use Rattle.together.proofs.Refused.{call-refused}
 use Rattle.state.proofs.Tests.{by-test}
 
 -- what a poll asks of an open place
@@ -117,8 +119,8 @@ module _ (q : Asked) (cookie : ℕ) where
         (rw (getD-set-same ps b w closed m) (sent-waits t1 (getD ps b closed) (subst⁻¹ (λ (n : ℕ). Waits q cookie (getD ps n closed)) same h))))
     report-waits b t1 ps g h false e = other-waits b (Sent t1) [] ps (rw e) h
 
-    -- any call that leaves the request outstanding
-    call-waits : (c : Call) (ps : List Place) → GoodTable ps → leavesRequest a c ≡ true → Waits q cookie (getD ps a closed)
+    -- a call that leaves the request outstanding whatever it answers
+    call-waits : (c : Call) (ps : List Place) → GoodTable ps → leavesOutstanding a c ≡ true → Waits q cookie (getD ps a closed)
         → Waits q cookie (getD (stepPlain c ps .1) a closed)
     call-waits clearTable ps g n h = let z : _≡_ {A = ℕ} 0 1 = cc in absurd (omega arith)
     call-waits (openOne b timescale c) ps g n h = other-waits b _ _ ps n h
@@ -129,10 +131,23 @@ module _ (q : Asked) (cookie : ℕ) where
     call-waits (loopVerdict b id) ps g n h = h
     call-waits (publish selected id out) ps g n h = h
 
-    -- and any list of them
-    pub calls-wait : (cs : List (TaggedCall Call)) (ps : List Place) → EveryCall Typed cs → EveryCall (λ c. leavesRequest a c ≡ true) cs → GoodTable ps
+    -- or since it is refused
+    refused-waits : (c : Call) (ps : List Place) → GoodTable ps → leavesOutstanding a c || not (eqb (stepPlain c ps .0 .refusal) 0) ≡ true → Waits q cookie (getD ps a closed)
+        → Waits q cookie (getD (stepPlain c ps .1) a closed)
+    refused-waits c ps g n h = go (leavesOutstanding a c) refl n
+      where
+        go : (b : Bool) → leavesOutstanding a c ≡ b → b || not (eqb (stepPlain c ps .0 .refusal) 0) ≡ true → Waits q cookie (getD (stepPlain c ps .1) a closed)
+        go true e m = call-waits c ps g e h
+        go false e m = subst⁻¹ (λ (qs : List Place). Waits q cookie (getD qs a closed)) (call-refused c ps (not-true _ m)) h
+
+    -- and any list of such calls on the table's octets
+    pub calls-wait : (cs : List (TaggedCall Call)) (ps : List Place) → EveryCall Typed cs → GoodTable ps → StaysOutstanding a cs (encodeAll ps)
         → Waits q cookie (getD ps a closed) → Waits q cookie (getD (after stepPlain cs ps) a closed)
     unfolding after
-    calls-wait [] ps ty ls g h = h
-    calls-wait (x ∷ cs) ps ty ls g h =
-        calls-wait cs (stepPlain (x .call) ps .1) (ty .1) (ls .1) (simulates .invariant (x .call) ps (ty .0) g) (call-waits (x .call) ps g (ls .0) h)
+    calls-wait [] ps ty g ls h = h
+    calls-wait (x ∷ cs) ps ty g ls h =
+        let c = x .call in
+        let same = simulates .agrees c ps (ty .0) g in
+        calls-wait cs (stepPlain c ps .1) (ty .1) (simulates .invariant c ps (ty .0) g)
+        (subst (λ (w : Answer × List ℕ). StaysOutstanding a cs (w .1)) same (ls .1))
+        (refused-waits c ps g (subst (λ (w : Answer × List ℕ). leavesOutstanding a c || not (eqb (w .0 .refusal) 0) ≡ true) same (ls .0)) h)

@@ -1,52 +1,71 @@
 -- `answer_to` meets its contract: what each role is answered with is one field, or none. Assumes nothing.
 use mathlib.Core.Path.{subst}
+use Prim.Native.Nat.{_+_}
 use native.Mathlib.Omega.{arith}
 use Rattle.chain.specs.Content.{chainOctets, draftName}
-use Rattle.field_role.proofs.Roles.{Suits}
-use Rattle.answer_fields.proofs.Writing.{written-none, information-whole, name-cut}
+use Rattle.field_role.specs.Role.{SizeAllowed}
+use Rattle.field_role.proofs.Roles.{Good, good-parts}
+use Rattle.field_write.proofs.Writing.{written-none}
+use Rattle.answer_fields.proofs.Writing.{name-cut, source-written, part-written}
 use borrow.Author.Needs.{needs}
 use Rattle.answer_fields.proofs.answer_to.Statement.{statement}
 use Rattle.answer_fields.proofs.answer_to.Tie as tie
 
+-- a filter request that is answered is good
+good : (c : tie.After-role) → let a = c .before .before .before .before .before .args in Good (c .role .given .0 .0) (a .field .size)
+good c =
+    let start = c .before .before .before .before .before in
+    good-parts (c .role .given .0 .0) (start .args .field .size) (subst (SizeAllowed (start .args .field)) (c .role .given .1) (start .pre .0))
+
 enum-known-role : tie.Need-enum-known-role
 enum-known-role c = search needs
 
-cast-put-field : tie.Need-cast-put-field
-cast-put-field c = search needs
+cast-from : tie.Need-cast-from
+cast-from c = search needs
 
-put-field-requires : tie.Need-put-field-requires
-put-field-requires c κs =
-    let at-role = c .before .before in
-    let start = at-role .before .before .before .before .before in
-    let good = subst (Suits (start .args .field)) (at-role .role .given .1) (start .pre .0) in
-    let i = good .inside in
-    (omega arith, omega arith, start .pre .3)
+add-put : tie.Need-add-put
+add-put c = search needs
+
+sub-put : tie.Need-sub-put
+sub-put c = search needs
+
+part-put-start : tie.Need-part-put-start
+part-put-start c = search needs
+
+part-put-end : tie.Need-part-put-end
+part-put-end c =
+    let start = c .before .before .before .before .before .before .before in
+    let inside = good (c .before .before) .inside in
+    let size = start .pre .1 in
+    omega arith
+
+put-requires : tie.Need-put-requires
+put-requires c κs = search needs
 
 enum-told : tie.Need-enum-told
 enum-told c = search needs
 
-put-field-requires-2 : tie.Need-put-field-requires-2
-put-field-requires-2 c κs =
-    let at-told = c .before in
-    let start = at-told .before .before .before .before .before in
-    let four = subst (Suits (start .args .field)) (at-told .enum-told .given .1) (start .pre .0) in
-    (omega arith, omega arith, omega arith)
+put-requires-2 : tie.Need-put-requires-2
+put-requires-2 c κs = search needs
 
+-- /tmp/h_field/target/rlib/chain.rlib/interface/lang/src/lib.rt:5:38
 enum-told-2 : tie.Need-enum-told-2
 enum-told-2 c = search needs
-
-slice-aggregate-put-field : tie.Need-slice-aggregate-put-field
-slice-aggregate-put-field c = search needs
 
 name-octets-requires : tie.Need-name-octets-requires
 name-octets-requires c κs = search needs
 
-put-field-requires-3 : tie.Need-put-field-requires-3
-put-field-requires-3 c κs =
-    let at-name = c .before in
-    let start = at-name .before .before .before .before .before .before .before in
-    let k = at-name .name-octets .ensures in
-    (omega arith, omega arith, omega arith)
+sub-put-2 : tie.Need-sub-put-2
+sub-put-2 c = search needs
+
+part-put-start-2 : tie.Need-part-put-start-2
+part-put-start-2 c = search needs
+
+part-put-end-2 : tie.Need-part-put-end-2
+part-put-end-2 c = search needs
+
+put-requires-3 : tie.Need-put-requires-3
+put-requires-3 c κs = search needs
 
 enum-told-3 : tie.Need-enum-told-3
 enum-told-3 c = search needs
@@ -56,18 +75,26 @@ same-length c = search needs
 
 returns : tie.Need-returns
 returns c =
-    let at-field = c .before .before in
-    rw (at-field .before .before .before .role .given .1) (at-field .put-field .ensures)
+    let at-put = c .before .before in
+    let at-role = at-put .before .before .before .before in
+    let start = at-role .before .before .before .before .before in
+    let a = start .args in
+    let inside = good at-role .inside in
+    let from = at-role .role .given .0 .0 in
+    let n = a .field .size in
+    rw (at-role .role .given .1) (part-written (a .out .now) (a .filter .now) (a .at) 0xF504 from (from + n) n (omega arith) (omega arith) (omega arith) (omega arith) (start .pre .3) (at-put .put .ensures))
 
 same-length-2 : tie.Need-same-length-2
 same-length-2 c = search needs
 
 returns-2 : tie.Need-returns-2
 returns-2 c =
-    let at-field = c .before .before in
-    let at-told = at-field .before .before in
+    let at-put = c .before .before in
+    let at-told = at-put .before .before in
     let start = at-told .before .before .before .before .before in
-    rw (at-told .enum-told .given .1, ← information-whole (start .args .information .now) (start .pre .2)) (at-field .put-field2 .ensures)
+    let a = start .args in
+    let four = subst (SizeAllowed (a .field)) (at-told .enum-told .given .1) (start .pre .0) in
+    rw (at-told .enum-told .given .1) (source-written (a .out .now) (a .information .now) (a .at) 0xF505 (omega arith) (omega arith) (at-put .put2 .ensures))
 
 same-length-3 : tie.Need-same-length-3
 same-length-3 c = search needs
@@ -75,9 +102,15 @@ same-length-3 c = search needs
 returns-3 : tie.Need-returns-3
 unfolding draftName
 returns-3 c =
-    let at-field = c .before .before in
-    let at-name = at-field .before .before in
-    rw (at-name .before .before .enum-told2 .given .1, ← name-cut, ← at-name .name-octets .ensures) (at-field .put-field3 .ensures)
+    let at-put = c .before .before in
+    let at-name = at-put .before .before .before .before in
+    let at-told = at-name .before in
+    let start = at-told .before .before .before .before .before in
+    let a = start .args in
+    let k = at-name .name-octets .result in
+    let e = at-name .name-octets .ensures in
+    rw (at-told .enum-told2 .given .1, ← name-cut, ← e)
+    (part-written (a .out .now) draftName (a .at) 0xF5FF 0 k k (omega arith) (omega arith) (omega arith) (omega arith) (omega arith) (at-put .put3 .ensures))
 
 returns-4 : tie.Need-returns-4
 unfolding chainOctets
@@ -88,14 +121,20 @@ answer-to-spec =
     tie.close
     (tie.spec
     enum-known-role
-    cast-put-field
-    put-field-requires
+    cast-from
+    add-put
+    sub-put
+    part-put-start
+    part-put-end
+    put-requires
     enum-told
-    put-field-requires-2
+    put-requires-2
     enum-told-2
-    slice-aggregate-put-field
     name-octets-requires
-    put-field-requires-3
+    sub-put-2
+    part-put-start-2
+    part-put-end-2
+    put-requires-3
     enum-told-3
     same-length
     returns

@@ -5,7 +5,8 @@ use Prim.Native.Nat.{_-_, _<_}
 use native.Mathlib.Omega.{arith}
 use lib.ListN.{length}
 use Rattle.chain.proofs.Steps.{reached, stopped}
-use Rattle.field_role.proofs.Roles.{Suits, suits-with}
+use Rattle.field_role.specs.Role.{SizeAllowed}
+use Rattle.field_role.proofs.Roles.{size-allowed}
 use Rattle.answer_fields.proofs.Passes.{Passing, pass-begins, pass-stops, pass-ends, pass-room, pass-goes-on, pass-skips}
 use borrow.Author.Needs.{needs}
 use Rattle.answer_fields.proofs.answers.Statement.{statement}
@@ -63,7 +64,7 @@ answer-to-requires c κs =
     let at-loop = at-step .before .before .before in
     let start = at-loop .before .before .before .before .before .before in
     let q = at-field .field .given in (
-      subst⁻¹ (Suits (q .0 .0)) (at-role-of .role-of .ensures) (suits-with _ (q .0 .0) _),
+      subst⁻¹ (SizeAllowed (q .0 .0)) (at-role-of .role-of .ensures) (size-allowed _ _ (q .0 .0)),
       start .pre .0,
       start .pre .1,
       pass-room _ _ _ _ (at-loop .loop .inv) (start .pre .0) (start .pre .1) (start .pre .2) _ (at-step .step .ensures) _ _ (q .1),

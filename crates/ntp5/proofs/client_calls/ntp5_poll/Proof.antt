@@ -34,7 +34,7 @@ returns c =
     let start = at .before .before .before .before .before .before in
     let a = start .args in
     let exponent : toZ w8 (ofZ w8 (a .exponent)) ≡ a .exponent = toZ-ofZ (start .fits .exponent) in
-    polled-converted _ (at .poll .result) _ _ (c .of-polled .ensures) ∙ at .poll .ensures
+    polled-converted _ _ _ (at .poll .result) (c .of-polled .ensures) ∙ at .poll .ensures
     ∙ ap (λ (e : ℤ). stepOctets (poll (a .association) (a .client-cookie) e (isInterleaved (at .before .before .before .mode .result)) (a .out .now)) (a .table .now)) exponent
     ∙ ap (λ (i : Bool). stepOctets (poll (a .association) (a .client-cookie) (a .exponent) i (a .out .now)) (a .table .now)) (at .before .before .before .mode .ensures)
 

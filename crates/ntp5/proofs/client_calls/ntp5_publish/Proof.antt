@@ -15,7 +15,7 @@ same-length : tie.Need-same-length
 same-length c = search needs
 
 returns : tie.Need-returns
-returns c = let at = c .before .before .before in published-converted _ (at .publish .result) _ _ (c .of-published .ensures) ∙ at .publish .ensures
+returns c = let at = c .before .before .before in published-converted _ _ _ (at .publish .result) (c .of-published .ensures) ∙ at .publish .ensures
 
 pub ntp5-publish-spec : {M : Type 1} → statement M
 ntp5-publish-spec = tie.close (tie.spec publish-requires of-published-requires same-length returns)

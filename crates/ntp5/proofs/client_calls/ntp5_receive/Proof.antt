@@ -1,6 +1,6 @@
 -- `ntp5_receive` meets its contract: the core's, with the answer as numbers. Assumes nothing.
 use mathlib.Core.Path.{_∙_}
-use Rattle.c_structs.proofs.Converted.{received-converted}
+use Rattle.c_structs.proofs.Converted.{with-table}
 use borrow.Author.Needs.{needs}
 use Rattle.ntp5.proofs.client_calls.ntp5_receive.Statement.{statement}
 use Rattle.ntp5.proofs.client_calls.ntp5_receive.Tie as tie
@@ -15,7 +15,7 @@ same-length : tie.Need-same-length
 same-length c = search needs
 
 returns : tie.Need-returns
-returns c = let at = c .before .before .before in received-converted _ (at .receive .result) _ (c .of-received .ensures) ∙ at .receive .ensures
+returns c = let at = c .before .before .before in with-table _ (c .of-received .ensures) ∙ at .receive .ensures
 
 pub ntp5-receive-spec : {M : Type 1} → statement M
 ntp5-receive-spec = tie.close (tie.spec receive-requires of-received-requires same-length returns)

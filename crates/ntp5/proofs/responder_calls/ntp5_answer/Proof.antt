@@ -27,7 +27,7 @@ returns c =
     let a = start .args in
     let poll = toZ-ofZ {w = w8} {z = a .poll} (start .fits .poll) in
     let precision = toZ-ofZ {w = w8} {z = a .precision} (start .fits .precision) in
-    answered-converted _ (at .answer .result) _ _ (c .of-answered .ensures) ∙ at .answer .ensures
+    answered-converted _ _ _ (at .answer .result) (c .of-answered .ensures) ∙ at .answer .ensures
     ∙ (λ i. answerOf
     (record {
       request = a .request .now;

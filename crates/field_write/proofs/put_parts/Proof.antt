@@ -1,11 +1,14 @@
--- `put_field` meets its contract: its four parts are written one after the other. Assumes nothing.
-use Rattle.answer_fields.proofs.Writing.{field-written}
+-- `put_parts` meets its contract: its four parts are written one after the other. Assumes nothing.
+use Rattle.field_write.proofs.Writing.{parts-written}
 use borrow.Author.Needs.{needs}
-use Rattle.answer_fields.proofs.put_field.Statement.{statement}
-use Rattle.answer_fields.proofs.put_field.Tie as tie
+use Rattle.field_write.proofs.put_parts.Statement.{statement}
+use Rattle.field_write.proofs.put_parts.Tie as tie
 
 add-padded : tie.Need-add-padded
 add-padded c = search needs
+
+add-padded-2 : tie.Need-add-padded-2
+add-padded-2 c = search needs
 
 mul-padded : tie.Need-mul-padded
 mul-padded c = search needs
@@ -16,11 +19,14 @@ put16-requires c κs = search needs
 add-put16 : tie.Need-add-put16
 add-put16 c = search needs
 
-cast-put16 : tie.Need-cast-put16
-cast-put16 c = search needs
-
 add-put16-2 : tie.Need-add-put16-2
 add-put16-2 c = search needs
+
+add-put16-3 : tie.Need-add-put16-3
+add-put16-3 c = search needs
+
+cast-put16 : tie.Need-cast-put16
+cast-put16 c = search needs
 
 put16-requires-2 : tie.Need-put16-requires-2
 put16-requires-2 c κs = search needs
@@ -60,22 +66,24 @@ returns c =
     let at-put16 = at-put162 .before .before .before .before in
     let start = at-put16 .before .before .before .before in
     let a = start .args in
-    field-written (a .kind) (a .n) (a .from) (a .at) (a .source .now) (a .out .now) (start .pre .1) (start .pre .2)
+    parts-written (a .kind) (a .zeros) (a .at) (a .source .now) (a .out .now) (start .pre .1)
     (at-put16 .put16 .ensures)
     (at-put162 .put162 .ensures)
     (at-copy .copy .ensures)
     (at-zero .zero .ensures)
 
-pub put-field-spec : {M : Type 1} → statement M
-put-field-spec =
+pub put-parts-spec : {M : Type 1} → statement M
+put-parts-spec =
     tie.close
     (tie.spec
     add-padded
+    add-padded-2
     mul-padded
     put16-requires
     add-put16
-    cast-put16
     add-put16-2
+    add-put16-3
+    cast-put16
     put16-requires-2
     add-copy
     copy-requires

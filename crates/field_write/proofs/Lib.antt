@@ -1,0 +1,2 @@
+-- The laws of writing a field. Assumes nothing.
+pub mod Writing

@@ -1,0 +1,2 @@
+-- One field, as it is written.
+pub mod Write
