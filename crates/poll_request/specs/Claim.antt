@@ -1,0 +1,39 @@
+-- What is read from a poll: document 01's "Poll", for whatever is asked.
+use mathlib.Core.Path.{_≡_}
+use mathlib.Core.Bool.{Bool}
+use mathlib.Core.List.{List}
+use Prim.Native.Nat.{ℕ, _%_, _^_, _<_, _≤_}
+use lib.IntN.{ℤ}
+use lib.ListN.{length}
+use mir.Syntax.{w8}
+use mir.Val.{SFits}
+use Rattle.octets.specs.Number.{num}
+use Rattle.header.specs.Header.{headerOf}
+use Rattle.chain.specs.Chain.{soundRefusal}
+use Rattle.chain.specs.Field.{fieldsOf}
+use Rattle.chain.specs.Content.{contentsOf}
+use Rattle.poll_request.specs.Request.{pollHeader, pollFields, pollOctets, offsetPlace, pollLength}
+use Rattle.poll_request.specs.declared.Asked.{Asked}
+
+-- what is asked is of its types, and c is a multiple of 4 up to 512
+pub record InRange (q : Asked) : Type 0 where
+  pub timescale : q .timescale < 2 ^ 8
+  pub least : 4 ≤ q .chunk
+  pub most : q .chunk ≤ 512
+  pub four : q .chunk % 4 ≡ 0
+  pub offset : q .offset < 2 ^ 16
+  pub server : q .server .0 < 2 ^ 64
+
+pub record PollClaim (q : Asked) (cookie : ℕ) (exponent : ℤ) (interleaved : Bool) (poll : List ℕ) : Type 0 where
+  pub long : length poll ≡ pollLength (q .chunk)
+  -- it is sound where a request is wanted
+  pub sound : soundRefusal poll 3 ≡ 0
+  -- its header is as asked
+  pub header-read : headerOf poll ≡ pollHeader q cookie exponent interleaved
+  -- its fields are the draft name and the filter request, whose data begin with the offset
+  pub contents : contentsOf poll (fieldsOf poll) ≡ pollFields q
+  pub offset : num poll offsetPlace 2 ≡ q .offset
+
+abbrev pub EveryPoll : Type 0
+EveryPoll = (q : Asked) (cookie : ℕ) (exponent : ℤ) (interleaved : Bool) → InRange q → cookie < 2 ^ 64 → SFits w8 exponent
+    → PollClaim q cookie exponent interleaved (pollOctets q cookie exponent interleaved)
