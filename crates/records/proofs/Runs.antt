@@ -14,7 +14,7 @@ use Rattle.store_rules.proofs.Rows.{held-index}
 use Rattle.store_rules.proofs.Stores.{Stores, store-read, stores-right, stores-row}
 use Rattle.store_rules.proofs.Steps.{stores-removed, stores-reported, stores-joined}
 use Rattle.store_rules.proofs.Changed.{place-reported}
-use Rattle.records.specs.Records.{recordsIn, vacant, wrongCount, wrongRecords, clearRecords, reportRefusal, reportRecords, leaveRecords, seated, joinRecords}
+use Rattle.records.specs.Records.{recordsIn, unusedRecord, wrongCount, wrongRecords, clearRecords, reportRefusal, reportRecords, leaveRecords, withCookieAtFree, joinRecords}
 use Rattle.records.specs.Same.{Fit, Call, clear, wrong, find, time, report, leave, join, onRecords, onOctets, answers, after, Typed, AllTyped, SameCalls, Same, Holds, ByRow}
 use Rattle.records.proofs.Sounds.{held-row, time-row, right-sound}
 use Rattle.records.proofs.Encoding.{size-is, row-octets, row-is, wrong-is, place-is}
@@ -36,17 +36,17 @@ fit-drop zero rs f = f
 fit-drop (suc n) [] f = tt
 fit-drop (suc n) (r ∷ rs) f = fit-drop n rs (f .2)
 
-fit-vacant : (n : ℕ) → Fit (replicate n vacant)
-fit-vacant zero = tt
-fit-vacant (suc n) = (omega arith, omega arith, fit-vacant n)
+fit-unused : (n : ℕ) → Fit (replicate n unusedRecord)
+fit-unused zero = tt
+fit-unused (suc n) = (omega arith, omega arith, fit-unused n)
 
 fit-clear : (rs : List Record) → Fit rs → Fit (clearRecords rs .1)
 unfolding clearRecords
 fit-clear rs f = go (wrongCount (length rs))
   where
-    go : (b : Bool) → Fit (cond {A = ℕ × List Record} b (6, rs) (0, replicate (length rs) vacant) .1)
+    go : (b : Bool) → Fit (cond {A = ℕ × List Record} b (6, rs) (0, replicate (length rs) unusedRecord) .1)
     go true = f
-    go false = fit-vacant (length rs)
+    go false = fit-unused (length rs)
 
 fit-reported : (c t : ℕ) (rs : List Record) → t < 2 ^ 64 → Fit rs → Fit (reported c t rs)
 unfolding reported
@@ -67,20 +67,20 @@ fit-report rs c t h f = go (eqb (reportRefusal rs c t) 0)
 
 fit-leave : (rs : List Record) (at : ℕ) → Fit rs → Fit (leaveRecords rs at)
 unfolding leaveRecords
-fit-leave rs at f = fit-append (take at rs) (drop (at + 1) (rs ++ (vacant ∷ []))) (fit-take at rs f) (fit-drop (at + 1) (rs ++ (vacant ∷ [])) (fit-append rs (vacant ∷ []) f (fit-vacant 1)))
+fit-leave rs at f = fit-append (take at rs) (drop (at + 1) (rs ++ (unusedRecord ∷ []))) (fit-take at rs f) (fit-drop (at + 1) (rs ++ (unusedRecord ∷ [])) (fit-append rs (unusedRecord ∷ []) f (fit-unused 1)))
 
-fit-seated : (c : ℕ) (rs : List Record) → c < 2 ^ 64 → Fit rs → Fit (seated c rs)
-unfolding seated
-fit-seated c [] h f = tt
-fit-seated c (r ∷ rs) h f = go (eqb (r .cookie) 0) (fit-seated c rs h (f .2))
+fit-with-cookie : (c : ℕ) (rs : List Record) → c < 2 ^ 64 → Fit rs → Fit (withCookieAtFree c rs)
+unfolding withCookieAtFree
+fit-with-cookie c [] h f = tt
+fit-with-cookie c (r ∷ rs) h f = go (eqb (r .cookie) 0) (fit-with-cookie c rs h (f .2))
   where
-    go : (b : Bool) → Fit (seated c rs) → Fit (cond b (record { cookie = c; time = r .time } ∷ rs) (r ∷ seated c rs))
+    go : (b : Bool) → Fit (withCookieAtFree c rs) → Fit (cond b (record { cookie = c; time = r .time } ∷ rs) (r ∷ withCookieAtFree c rs))
     go true g = (h, f .1, f .2)
     go false g = (f .0, f .1, g)
 
 fit-join : (rs : List Record) (c : ℕ) → c < 2 ^ 64 → Fit rs → Fit (joinRecords rs c)
 unfolding joinRecords
-fit-join rs c h f = fit-seated c (cond (held 0 rs) rs (leaveRecords rs 0)) h (go (held 0 rs))
+fit-join rs c h f = fit-with-cookie c (cond (held 0 rs) rs (leaveRecords rs 0)) h (go (held 0 rs))
   where
     go : (b : Bool) → Fit (cond b rs (leaveRecords rs 0))
     go true = f
@@ -118,12 +118,12 @@ same slice f cs ts = same-calls (recordsIn slice) f cs ts
 -- ---- the row's calls
 
 -- the time of a cookie stands where the cookie does
-time-at : (c : ℕ) (rs : List Record) → timeOf c rs ≡ getD rs (indexOf c rs) vacant .time
+time-at : (c : ℕ) (rs : List Record) → timeOf c rs ≡ getD rs (indexOf c rs) unusedRecord .time
 unfolding timeOf indexOf
 time-at c [] = refl
 time-at c (r ∷ rs) = go (eqb (r .cookie) c) (time-at c rs)
   where
-    go : (b : Bool) → timeOf c rs ≡ getD rs (indexOf c rs) vacant .time → cond b (r .time) (timeOf c rs) ≡ getD (r ∷ rs) (cond b 0 (1 + indexOf c rs)) vacant .time
+    go : (b : Bool) → timeOf c rs ≡ getD rs (indexOf c rs) unusedRecord .time → cond b (r .time) (timeOf c rs) ≡ getD (r ∷ rs) (cond b 0 (1 + indexOf c rs)) unusedRecord .time
     go true e = refl
     go false e = let o : 1 + indexOf c rs ≡ suc (indexOf c rs) = omega arith in rw o e
 

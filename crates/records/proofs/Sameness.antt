@@ -19,7 +19,7 @@ use Rattle.store_rules.proofs.Stores.{store-read}
 use Rattle.store_rules.proofs.Places.{remove-record}
 use Rattle.store_rules.proofs.Kept.{length-reported}
 use Rattle.store_rules.proofs.Changed.{join-free as octets-free, join-full as octets-full}
-use Rattle.records.specs.Records.{vacant, wrongCount, wrongRecords, clearRecords, reportRefusal, reportRecords, leaveRecords, seated, joinRecords}
+use Rattle.records.specs.Records.{unusedRecord, wrongCount, wrongRecords, clearRecords, reportRefusal, reportRecords, leaveRecords, withCookieAtFree, joinRecords}
 use Rattle.records.specs.Same.{Fit, Call, clear, wrong, find, time, report, leave, join, onRecords, onOctets}
 use Rattle.records.proofs.Moves.{length-leave, leave-past}
 use Rattle.records.proofs.Joining.{withCookie, join-free, join-full, last-free}
@@ -35,7 +35,7 @@ clear-same : (rs : List Record) → cleared (rowOctets rs) ≡ spelled (clearRec
 unfolding cleared clearRecords
 clear-same rs = rw (count-is rs, size-is rs) (go (wrongCount (length rs)))
   where
-    go : (b : Bool) → cond b (6, rowOctets rs) (0, storeOctets (length rs) []) ≡ spelled (cond b (6, rs) (0, replicate (length rs) vacant))
+    go : (b : Bool) → cond b (6, rowOctets rs) (0, storeOctets (length rs) []) ≡ spelled (cond b (6, rs) (0, replicate (length rs) unusedRecord))
     go true = refl
     go false = ap (λ (l : List ℕ). (0, l)) (store-row (length rs) [] ∙ rw sub-zero)
 
@@ -59,11 +59,11 @@ module _ (rs : List Record) (at : ℕ) where
   unfolding leaveRecords
   leave-inside l =
       let a = take at rs in
-      let r = getD rs at vacant in
+      let r = getD rs at unusedRecord in
       let b = drop (suc at) rs in
       let k : length a ≡ at = length-take-le at rs (omega arith) in
-      let d : drop (at + 1) (rs ++ (vacant ∷ [])) ≡ b ++ (vacant ∷ []) = rw (add-one at) (drop-append-le (suc at) rs (vacant ∷ []) l) in
-      ap (λ (l : List Record). removed (rowOctets l) (16 * at)) (split-at rs at vacant l)
+      let d : drop (at + 1) (rs ++ (unusedRecord ∷ [])) ≡ b ++ (unusedRecord ∷ []) = rw (add-one at) (drop-append-le (suc at) rs (unusedRecord ∷ []) l) in
+      ap (λ (l : List Record). removed (rowOctets l) (16 * at)) (split-at rs at unusedRecord l)
       ∙ ap (λ (j : ℕ). removed (rowOctets (a ++ (r ∷ b))) (16 * j)) (sym k)
       ∙ remove-record a r b
       ∙ ap (λ (l : List Record). rowOctets (a ++ l)) (sym d)
@@ -104,7 +104,7 @@ join-some rs f c h = go (ltb (indexOf 0 rs) (length rs)) refl
         sym (octets-full (rowOctets rs) c (16 * indexOf 0 rs) (sym (place-is rs f 0)) (omega (arith, length-row rs))) ∙ join-last rs c h q
 
 pub join-same : (rs : List Record) → Fit rs → (c : ℕ) → joinedOctets (rowOctets rs) c ≡ rowOctets (joinRecords rs c)
-unfolding joinedOctets placeOf indexOf removed rowOctets recordsFrom joinRecords leaveRecords seated held
+unfolding joinedOctets placeOf indexOf removed rowOctets recordsFrom joinRecords leaveRecords withCookieAtFree held
 join-same [] f c = refl
 join-same (r ∷ rs) f c = join-some (r ∷ rs) f c (omega arith)
 

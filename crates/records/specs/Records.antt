@@ -17,8 +17,8 @@ abbrev pub recordsIn : List Slot → List Record
 recordsIn rs = map recordOf rs
 
 -- an unused record
-abbrev pub vacant : Record
-vacant = record { cookie = 0; time = 0 }
+abbrev pub unusedRecord : Record
+unusedRecord = record { cookie = 0; time = 0 }
 
 -- ---- the calls
 
@@ -32,7 +32,7 @@ wrongRecords rs = wrongCount (length rs) || not (soundRecords rs)
 
 -- clearing checks the size only: the refusal, and the records after it
 unfoldable pub clearRecords : List Record → ℕ × List Record
-clearRecords rs = cond (wrongCount (length rs)) (6, rs) (0, replicate (length rs) vacant)
+clearRecords rs = cond (wrongCount (length rs)) (6, rs) (0, replicate (length rs) unusedRecord)
 
 -- a report of a cookie's time
 abbrev pub reportRefusal : List Record → ℕ → ℕ → ℕ
@@ -43,13 +43,13 @@ reportRecords rs c t = cond (eqb (reportRefusal rs c t) 0) (0, reported c t rs) 
 
 -- the record at a place leaves: those after it move up by one, and the last is unused; past the end none leaves
 unfoldable pub leaveRecords : List Record → ℕ → List Record
-leaveRecords rs at = take at rs ++ drop (at + 1) (rs ++ (vacant ∷ []))
+leaveRecords rs at = take at rs ++ drop (at + 1) (rs ++ (unusedRecord ∷ []))
 
 -- the first record with cookie 0 gets a cookie
-unfoldable pub seated : ℕ → List Record → List Record
-seated c [] = []
-seated c (r ∷ rs) = cond (eqb (r .cookie) 0) (record { cookie = c; time = r .time } ∷ rs) (r ∷ seated c rs)
+unfoldable pub withCookieAtFree : ℕ → List Record → List Record
+withCookieAtFree c [] = []
+withCookieAtFree c (r ∷ rs) = cond (eqb (r .cookie) 0) (record { cookie = c; time = r .time } ∷ rs) (r ∷ withCookieAtFree c rs)
 
 -- a cookie joins the end: where no record has cookie 0, the oldest leaves first
 unfoldable pub joinRecords : List Record → ℕ → List Record
-joinRecords rs c = seated c (cond (held 0 rs) rs (leaveRecords rs 0))
+joinRecords rs c = withCookieAtFree c (cond (held 0 rs) rs (leaveRecords rs 0))

@@ -8,7 +8,7 @@ use lib.ListN.{length, getD}
 use Rattle.octets.specs.Number.{getAt}
 use Rattle.store_rules.specs.Row.{Record, held, timeOf, reported, without, joined, usedOf, rowOctets, rowOf, wrongStore, cleared, reporting}
 use Rattle.store_rules.specs.Place.{indexOf, placeOf, removed, joinedOctets}
-use Rattle.records.specs.Records.{recordsIn, vacant, wrongRecords, clearRecords, reportRecords, leaveRecords, joinRecords}
+use Rattle.records.specs.Records.{recordsIn, unusedRecord, wrongRecords, clearRecords, reportRecords, leaveRecords, joinRecords}
 use Rattle.records.specs.declared.Record.{Record as Slot}
 
 -- ---- calls
@@ -28,7 +28,7 @@ abbrev pub onRecords : Call → List Record → ℕ × List Record
 onRecords clear rs = clearRecords rs
 onRecords wrong rs = (cond (wrongRecords rs) 1 0, rs)
 onRecords (find c) rs = (indexOf c rs, rs)
-onRecords (time at) rs = (getD rs at vacant .time, rs)
+onRecords (time at) rs = (getD rs at unusedRecord .time, rs)
 onRecords (report c t) rs = reportRecords rs c t
 onRecords (leave at) rs = (0, leaveRecords rs at)
 onRecords (join c) rs = (0, joinRecords rs c)
@@ -90,7 +90,7 @@ pub record Holds (row rs : List Record) : Type 0 where
 -- on records that are not wrong each call is the row's, and leaves records that are not wrong
 pub record RowCalls (rs : List Record) : Type 0 where
   pub finds : (c : ℕ) → (c ≡ 0 → ⊥) → held c (usedOf rs) ≡ ltb (indexOf c rs) (length rs)
-  pub times : (c : ℕ) → timeOf c (usedOf rs) ≡ getD rs (indexOf c rs) vacant .time
+  pub times : (c : ℕ) → timeOf c (usedOf rs) ≡ getD rs (indexOf c rs) unusedRecord .time
   pub reports : (c t : ℕ) → t < 2 ^ 64 → reportRecords rs c t .0 ≡ 0 → Holds (reported c t (usedOf rs)) (reportRecords rs c t .1)
   pub leaves : (c : ℕ) → held c (usedOf rs) ≡ true → Holds (without c (usedOf rs)) (leaveRecords rs (indexOf c rs))
   pub joins : (c : ℕ) → (c ≡ 0 → ⊥) → c < 2 ^ 64 → held c (usedOf rs) ≡ false → Holds (joined (length rs) c (usedOf rs)) (joinRecords rs c)
