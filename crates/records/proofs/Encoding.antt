@@ -14,8 +14,7 @@ use Rattle.store_rules.specs.Row.{Record, usedOf, rowOctets, recordsFrom, recor
 use Rattle.store_rules.specs.Place.{indexOf, placeOf}
 use Rattle.store_rules.proofs.Written.{AllFit, length-row, records-read}
 use Rattle.store_rules.proofs.Places.{put-cookie}
-use Rattle.records.specs.Records.{unusedRecord, wrongCount, wrongRecords}
-use Rattle.records.specs.Same.{Fit}
+use Rattle.records.specs.Records.{unusedRecord, Fit, wrongCount, wrongRecords}
 use Rattle.records.proofs.Joining.{withCookie}
 
 -- ---- sizes

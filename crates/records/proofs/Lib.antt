@@ -7,7 +7,6 @@ pub mod Reporting
 pub mod Joining
 pub mod Encoding
 pub mod Sameness
-pub mod Runs
 pub mod Walk
 pub mod Finding
 pub mod Lending

@@ -1,4 +1,4 @@
--- Each call on records is the same call on their octets, so every list of calls is. Assumes nothing.
+-- Each call on records is the same call on their octets. Assumes nothing.
 use mathlib.Core.Path.{_≡_, refl, sym, ap, _∙_}
 use mathlib.Core.Bool.{Bool, true, false, cond, not, _||_, true≢false}
 use mathlib.Core.List.{List, [], _∷_, _++_}
@@ -19,19 +19,18 @@ use Rattle.store_rules.proofs.Stores.{store-read}
 use Rattle.store_rules.proofs.Places.{remove-record}
 use Rattle.store_rules.proofs.Kept.{length-reported}
 use Rattle.store_rules.proofs.Changed.{join-free as octets-free, join-full as octets-full}
-use Rattle.records.specs.Records.{unusedRecord, wrongCount, wrongRecords, clearRecords, reportRefusal, reportRecords, leaveRecords, withCookieAtFree, joinRecords}
-use Rattle.records.specs.Same.{Fit, Call, clear, wrong, find, time, report, leave, join, onRecords, onOctets}
+use Rattle.records.specs.Records.{unusedRecord, Fit, wrongCount, wrongRecords, clearRecords, reportRefusal, reportRecords, leaveRecords, withCookieAtFree, joinRecords}
 use Rattle.records.proofs.Moves.{length-leave, leave-past}
 use Rattle.records.proofs.Joining.{withCookie, join-free, join-full, last-free}
 use Rattle.records.proofs.Encoding.{size-is, count-is, row-octets, read-back, row-is, wrong-is, place-is, time-is, put-at}
 
 -- what a call on records leaves, as octets
-abbrev spelled : ℕ × List Record → ℕ × List ℕ
+abbrev pub spelled : ℕ × List Record → ℕ × List ℕ
 spelled w = (w .0, rowOctets (w .1))
 
 -- ---- clearing
 
-clear-same : (rs : List Record) → cleared (rowOctets rs) ≡ spelled (clearRecords rs)
+pub clear-same : (rs : List Record) → cleared (rowOctets rs) ≡ spelled (clearRecords rs)
 unfolding cleared clearRecords
 clear-same rs = rw (count-is rs, size-is rs) (go (wrongCount (length rs)))
   where
@@ -141,14 +140,3 @@ module _ (rs : List Record) (f : Fit rs) (c t : ℕ) where
           → cond b (0, storeOctets (sizeOf (rowOctets rs)) (reported c t (usedOf rs))) (reportRefusal rs c t, rowOctets rs) ≡ spelled (cond b (0, reported c t rs) (reportRefusal rs c t, rs))
       go true q = let p = unrefused (eqb-true (reportRefusal rs c t) 0 q) in ap (λ (l : List ℕ). (0, l)) (report-octets (p .0) (p .1))
       go false q = refl
-
--- ---- every call
-
-pub step-same : (c : Call) (rs : List Record) → Fit rs → onOctets c (rowOctets rs) ≡ spelled (onRecords c rs)
-step-same clear rs f = clear-same rs
-step-same wrong rs f = ap (λ (b : Bool). (cond b 1 0, rowOctets rs)) (wrong-is rs f)
-step-same (find c) rs f = ap (λ (i : ℕ). (i, rowOctets rs)) (rw (place-is rs f c) (omega arith))
-step-same (time at) rs f = ap (λ (t : ℕ). (t, rowOctets rs)) (time-is rs f at)
-step-same (report c t) rs f = report-same rs f c t
-step-same (leave at) rs f = ap (λ (l : List ℕ). (0, l)) (leave-same rs at)
-step-same (join c) rs f = ap (λ (l : List ℕ). (0, l)) (join-same rs f c)

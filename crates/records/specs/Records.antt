@@ -2,7 +2,7 @@
 -- The row's own rules are those of `store`: a cookie that is held, its time, a report, sound records.
 use mathlib.Core.Bool.{Bool, cond, not, _||_}
 use mathlib.Core.List.{List, [], _∷_, _++_, map}
-use Prim.Native.Nat.{ℕ, _+_}
+use Prim.Native.Nat.{ℕ, _+_, _<_, _^_}
 use lib.Dec.{eqb, ltb}
 use lib.ListN.{length, take, drop, replicate}
 use Rattle.store_rules.specs.Row.{Record, held, reported, usedOf, soundRecords, refusedReport}
@@ -15,6 +15,11 @@ recordOf r = record { cookie = r .cookie .0; time = r .time }
 
 abbrev pub recordsIn : List Slot → List Record
 recordsIn rs = map recordOf rs
+
+-- numbers of 64 bits, as every u64 is
+abbrev pub Fit : List Record → Type 0
+Fit [] = Unit {0}
+Fit (r ∷ rs) = (r .cookie < 2 ^ 64) × (r .time < 2 ^ 64) × Fit rs
 
 -- an unused record
 abbrev pub unusedRecord : Record

@@ -1,12 +1,12 @@
 -- Every list of calls on records is the same on their octets, and on records that are not wrong each call is the row's. Assumes nothing.
 use mathlib.Core.Path.{_≡_, refl, sym, ap, _∙_}
 use mathlib.Core.Bool.{Bool, true, false, cond}
-use mathlib.Core.List.{List, [], _∷_, _++_}
-use Prim.Native.Nat.{ℕ, zero, suc, _+_, _<_, _^_}
+use mathlib.Core.List.{List, [], _∷_}
+use Prim.Native.Nat.{ℕ, suc, _+_, _<_, _^_}
 use native.Mathlib.Omega.{arith}
 use borrow.Author.Tests.{eqb-true, eqb-false}
 use lib.Dec.{eqb}
-use lib.ListN.{length, getD, take, drop, replicate}
+use lib.ListN.{length, getD}
 use Rattle.octets.specs.Number.{putAt}
 use Rattle.store_rules.specs.Row.{Record, held, timeOf, reported, without, joined, usedOf, rowOctets, storeOctets, rowOf, wrongStore}
 use Rattle.store_rules.specs.Place.{indexOf, placeOf, removed, joinedOctets}
@@ -14,100 +14,50 @@ use Rattle.store_rules.proofs.Rows.{held-index}
 use Rattle.store_rules.proofs.Stores.{Stores, store-read, stores-right, stores-row}
 use Rattle.store_rules.proofs.Steps.{stores-removed, stores-reported, stores-joined}
 use Rattle.store_rules.proofs.Changed.{place-reported}
-use Rattle.records.specs.Records.{recordsIn, unusedRecord, wrongCount, wrongRecords, clearRecords, reportRefusal, reportRecords, leaveRecords, withCookieAtFree, joinRecords}
-use Rattle.records.specs.Same.{Fit, Call, clear, wrong, find, time, report, leave, join, onRecords, onOctets, answers, after, Typed, AllTyped, SameCalls, Same, Holds, ByRow}
+use Rattle.records.specs.Records.{recordsIn, unusedRecord, Fit, wrongRecords, reportRefusal, reportRecords, leaveRecords, joinRecords}
 use Rattle.records.proofs.Sounds.{held-row, time-row, right-sound}
-use Rattle.records.proofs.Encoding.{size-is, row-octets, row-is, wrong-is, place-is}
-use Rattle.records.proofs.Sameness.{report-octets, unrefused, leave-same, join-same, step-same}
+use Rattle.records.proofs.Encoding.{size-is, row-octets, row-is, wrong-is, place-is, time-is}
+use Rattle.records.proofs.Sameness.{clear-same, report-same, report-octets, unrefused, leave-same, join-same}
+use Rattle.responder_rules.specs.Answer.{Given, asking, rowAfter}
+use Rattle.responder_rules.proofs.Leaving.{answer-stores}
+use Rattle.records_answer.specs.Answer.{answerRecords}
+use Rattle.records_answer.specs.Same.{Call, clear, wrong, find, time, report, leave, join, answer, Returned, number, onRecords, onOctets, returned, after, Typed, AllTyped, SameCalls, Same, Holds, ByRow}
+use Rattle.records_answer.proofs.Fits.{fit-report, fit-leave, fit-join, fit-step}
+use Rattle.records_answer.proofs.Answering.{answer-same, answer-octets, answer-unrefused}
 
--- ---- numbers of 64 bits stay such numbers
+-- ---- every call
 
-fit-append : (a b : List Record) → Fit a → Fit b → Fit (a ++ b)
-fit-append [] b f g = g
-fit-append (r ∷ a) b f g = (f .0, f .1, fit-append a b (f .2) g)
+-- a call that returns a number
+numbered : {S : Type 0} {v w : ℕ × S} → v ≡ w → _≡_ {A = Returned × S} (number (v .0), v .1) (number (w .0), w .1)
+numbered {S} e = ap (λ (w : ℕ × S). (number (w .0), w .1)) e
 
-fit-take : (n : ℕ) (rs : List Record) → Fit rs → Fit (take n rs)
-fit-take zero rs f = tt
-fit-take (suc n) [] f = tt
-fit-take (suc n) (r ∷ rs) f = (f .0, f .1, fit-take n rs (f .2))
+-- what a call on records leaves, as octets
+abbrev spelled : Returned × List Record → Returned × List ℕ
+spelled w = (w .0, rowOctets (w .1))
 
-fit-drop : (n : ℕ) (rs : List Record) → Fit rs → Fit (drop n rs)
-fit-drop zero rs f = f
-fit-drop (suc n) [] f = tt
-fit-drop (suc n) (r ∷ rs) f = fit-drop n rs (f .2)
-
-fit-unused : (n : ℕ) → Fit (replicate n unusedRecord)
-fit-unused zero = tt
-fit-unused (suc n) = (omega arith, omega arith, fit-unused n)
-
-fit-clear : (rs : List Record) → Fit rs → Fit (clearRecords rs .1)
-unfolding clearRecords
-fit-clear rs f = go (wrongCount (length rs))
-  where
-    go : (b : Bool) → Fit (cond {A = ℕ × List Record} b (6, rs) (0, replicate (length rs) unusedRecord) .1)
-    go true = f
-    go false = fit-unused (length rs)
-
-fit-reported : (c t : ℕ) (rs : List Record) → t < 2 ^ 64 → Fit rs → Fit (reported c t rs)
-unfolding reported
-fit-reported c t [] h f = tt
-fit-reported c t (r ∷ rs) h f = go (eqb (r .cookie) c) refl (fit-reported c t rs h (f .2))
-  where
-    go : (b : Bool) → eqb (r .cookie) c ≡ b → Fit (reported c t rs) → Fit (cond b (record { cookie = c; time = t } ∷ rs) (r ∷ reported c t rs))
-    go true q g = (rw (eqb-true (r .cookie) c q) at (f .0), h, f .2)
-    go false q g = (f .0, f .1, g)
-
-fit-report : (rs : List Record) (c t : ℕ) → t < 2 ^ 64 → Fit rs → Fit (reportRecords rs c t .1)
-unfolding reportRecords
-fit-report rs c t h f = go (eqb (reportRefusal rs c t) 0)
-  where
-    go : (b : Bool) → Fit (cond {A = ℕ × List Record} b (0, reported c t rs) (reportRefusal rs c t, rs) .1)
-    go true = fit-reported c t rs h f
-    go false = f
-
-fit-leave : (rs : List Record) (at : ℕ) → Fit rs → Fit (leaveRecords rs at)
-unfolding leaveRecords
-fit-leave rs at f = fit-append (take at rs) (drop (at + 1) (rs ++ (unusedRecord ∷ []))) (fit-take at rs f) (fit-drop (at + 1) (rs ++ (unusedRecord ∷ [])) (fit-append rs (unusedRecord ∷ []) f (fit-unused 1)))
-
-fit-with-cookie : (c : ℕ) (rs : List Record) → c < 2 ^ 64 → Fit rs → Fit (withCookieAtFree c rs)
-unfolding withCookieAtFree
-fit-with-cookie c [] h f = tt
-fit-with-cookie c (r ∷ rs) h f = go (eqb (r .cookie) 0) (fit-with-cookie c rs h (f .2))
-  where
-    go : (b : Bool) → Fit (withCookieAtFree c rs) → Fit (cond b (record { cookie = c; time = r .time } ∷ rs) (r ∷ withCookieAtFree c rs))
-    go true g = (h, f .1, f .2)
-    go false g = (f .0, f .1, g)
-
-fit-join : (rs : List Record) (c : ℕ) → c < 2 ^ 64 → Fit rs → Fit (joinRecords rs c)
-unfolding joinRecords
-fit-join rs c h f = fit-with-cookie c (cond (held 0 rs) rs (leaveRecords rs 0)) h (go (held 0 rs))
-  where
-    go : (b : Bool) → Fit (cond b rs (leaveRecords rs 0))
-    go true = f
-    go false = fit-leave rs 0 f
-
-fit-step : (c : Call) (rs : List Record) → Typed c → Fit rs → Fit (onRecords c rs .1)
-fit-step clear rs t f = fit-clear rs f
-fit-step wrong rs t f = f
-fit-step (find c) rs t f = f
-fit-step (time at) rs t f = f
-fit-step (report c t′) rs t f = fit-report rs c t′ t f
-fit-step (leave at) rs t f = fit-leave rs at f
-fit-step (join c) rs t f = fit-join rs c t f
+step-same : (c : Call) (rs : List Record) → Fit rs → onOctets c (rowOctets rs) ≡ spelled (onRecords c rs)
+step-same clear rs f = numbered (clear-same rs)
+step-same wrong rs f = ap (λ (b : Bool). (number (cond b 1 0), rowOctets rs)) (wrong-is rs f)
+step-same (find c) rs f = ap (λ (i : ℕ). (number i, rowOctets rs)) (rw (place-is rs f c) (omega arith))
+step-same (time at) rs f = ap (λ (t : ℕ). (number t, rowOctets rs)) (time-is rs f at)
+step-same (report c t) rs f = numbered (report-same rs f c t)
+step-same (leave at) rs f = ap (λ (l : List ℕ). (number 0, l)) (leave-same rs at)
+step-same (join c) rs f = ap (λ (l : List ℕ). (number 0, l)) (join-same rs f c)
+step-same (answer g out) rs f = answer-same g rs f out
 
 -- ---- every list of calls
 
 same-calls : (rs : List Record) → Fit rs → (cs : List Call) → AllTyped cs → SameCalls rs cs
-unfolding answers after
-same-calls rs f [] ts = record { answered = refl; left = refl; row = row-is rs f }
+unfolding returned after
+same-calls rs f [] ts = record { returns = refl; left = refl; row = row-is rs f }
 same-calls rs f (c ∷ cs) ts =
     let e = step-same c rs f in
-    let a : onOctets c (rowOctets rs) .0 ≡ onRecords c rs .0 = ap (λ (w : ℕ × List ℕ). w .0) e in
-    let s : onOctets c (rowOctets rs) .1 ≡ rowOctets (onRecords c rs .1) = ap (λ (w : ℕ × List ℕ). w .1) e in
+    let a : onOctets c (rowOctets rs) .0 ≡ onRecords c rs .0 = ap (λ (w : Returned × List ℕ). w .0) e in
+    let s : onOctets c (rowOctets rs) .1 ≡ rowOctets (onRecords c rs .1) = ap (λ (w : Returned × List ℕ). w .1) e in
     let w = same-calls (onRecords c rs .1) (fit-step c rs (ts .0) f) cs (ts .1) in
-    let l : answers onOctets cs (onOctets c (rowOctets rs) .1) ≡ answers onRecords cs (onRecords c rs .1) = ap (answers onOctets cs) s ∙ w .answered in
+    let l : returned onOctets cs (onOctets c (rowOctets rs) .1) ≡ returned onRecords cs (onRecords c rs .1) = ap (returned onOctets cs) s ∙ w .returns in
     record {
-      answered = λ i. a i ∷ l i;
+      returns = λ i. a i ∷ l i;
       left = ap (after onOctets cs) s ∙ w .left;
       row = ap (λ (l : List ℕ). rowOf (after onOctets cs l)) s ∙ w .row;
     }
@@ -165,6 +115,11 @@ module _ (rs : List Record) (f : Fit rs) (h : wrongRecords rs ≡ false) where
   join-holds : (c : ℕ) → (c ≡ 0 → ⊥) → c < 2 ^ 64 → held c (usedOf rs) ≡ false → Holds (joined (length rs) c (usedOf rs)) (joinRecords rs c)
   join-holds c z l k = holds (joinRecords rs c) (fit-join rs c l f) (joinedOctets (rowOctets rs) c) (join-same rs f c) (length rs) (joined (length rs) c (usedOf rs)) (stores-joined stored c z l k)
 
+  answer-row : (g : Given) (out : List ℕ) → g .freshCookie < 2 ^ 64 → answerRecords g rs out .refusal ≡ 0 → Holds (rowAfter (asking g) (g .freshCookie) (length rs) (usedOf rs)) (answerRecords g rs out .records)
+  answer-row g out l z =
+      let row = rowAfter (asking g) (g .freshCookie) (length rs) (usedOf rs) in
+      holds (answerRecords g rs out .records) (fit-step (answer g out) rs l f) (storeOctets (length rs) row) (answer-octets g rs f out z) (length rs) row (answer-stores stored g out l (answer-unrefused g rs f out z))
+
 pub by-row : ByRow
 by-row slice f h = let rs = recordsIn slice in record {
   finds = λ c z. held-row c rs (right-sound rs h) z ∙ held-index c rs;
@@ -172,4 +127,5 @@ by-row slice f h = let rs = recordsIn slice in record {
   reports = report-holds rs f h;
   leaves = leave-holds rs f h;
   joins = join-holds rs f h;
+  answers = answer-row rs f h;
 }

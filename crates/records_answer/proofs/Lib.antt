@@ -1,0 +1,4 @@
+-- The laws of the answer from a slice of records. Assumes nothing.
+pub mod Fits
+pub mod Answering
+pub mod Runs

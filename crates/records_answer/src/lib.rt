@@ -1,0 +1,1 @@
+// The answer from a slice of records.
