@@ -10,4 +10,5 @@ pub mod Sameness
 pub mod Walk
 pub mod Finding
 pub mod Lending
+pub mod Calling
 pub mod Leaving

@@ -2,11 +2,12 @@
 use mathlib.Core.Path.{_≡_, refl, sym, ap, _∙_}
 use mathlib.Core.Bool.{Bool, true, false, cond, not, _||_}
 use mathlib.Core.List.{List, _++_}
-use Prim.Native.Nat.{ℕ}
+use Prim.Native.Nat.{ℕ, zero, suc}
 use native.Mathlib.Omega.{arith}
-use borrow.Author.Tests.{ne-eqb, eqb-false}
-use lib.Dec.{eqb, ltb}
+use borrow.Author.Tests.{ne-eqb}
+use lib.Dec.{eqb}
 use lib.ListN.{length, drop}
+use Rattle.header.specs.Header.{reading}
 use Rattle.chain.specs.Chain.{soundRefusal}
 use Rattle.store_rules.specs.Row.{Record, usedOf, rowOctets, storeOctets}
 use Rattle.store_rules.proofs.Written.{store-row}
@@ -15,63 +16,78 @@ use Rattle.records.proofs.Encoding.{size-is, row-is, wrong-is}
 use Rattle.responder_rules.specs.Answer.{Given, asking, savedTime, rowAfter, wrongArguments, wrongFresh, answerOctets, answerRefusal, Outcome as OctetsOutcome, answerOf}
 use Rattle.responder_rules.proofs.Accepting.{answer-written, answer-refused}
 use Rattle.records_answer.specs.Step.{Stepped, padded, refuse, answerStep}
-use Rattle.records_answer.specs.Answer.{firstRefusal, stepOf, Outcome, answerRecords}
+use Rattle.records_answer.specs.Answer.{firstRefusal, shortOutput, stepOf, Outcome, answerRecords}
 use Rattle.records_answer.specs.Same.{answer, Returned, answered, onRecords, onOctets}
 
 -- ---- the step, by its tests
 
-module _ (asked : Given) (rs : List Record) where
+module _ (g : Given) (rs : List Record) where
   -- a step that is not refused
   abbrev done : Stepped
-  done =
-      let h = asking asked in
-      record { refusal = 0; saved = savedTime h (usedOf rs); records = padded (length rs) (rowAfter h (asked .freshCookie) (length rs) (usedOf rs)) }
-
-  abbrev chosen : (six request eight short : Bool) (first : ℕ) → Stepped
-  chosen six request eight short first = cond six (refuse 6 rs) (cond request (refuse first rs) (cond eight (refuse 8 rs) (cond short (refuse 11 rs) done)))
+  done = record { refusal = 0; saved = savedTime (asking g) (usedOf rs); records = padded (length rs) (rowAfter (asking g) (g .freshCookie) (length rs) (usedOf rs)) }
 
   -- it goes on, or a refusal stops it
   data Way (s : Stepped) : Type 0 where
     goes : s ≡ done → Way s
     stops : (s .refusal ≡ 0 → ⊥) → s .records ≡ rs → Way s
 
-  by-tests : (six eight short zero : Bool) (first : ℕ) → eqb first 0 ≡ zero → Way (chosen six (not zero) eight short first)
-  by-tests true e s z n q = stops (λ k. omega (arith, k)) refl
-  by-tests false e s false n q = stops (eqb-false n 0 q) refl
-  by-tests false true s true n q = stops (λ k. omega (arith, k)) refl
-  by-tests false false true true n q = stops (λ k. omega (arith, k)) refl
-  by-tests false false false true n q = goes refl
+  by-tests : (six eight short : Bool) → Way (cond six (refuse 6 rs) (cond eight (refuse 8 rs) (cond short (refuse 11 rs) done)))
+  by-tests true e s = stops (λ k. omega (arith, k)) refl
+  by-tests false true s = stops (λ k. omega (arith, k)) refl
+  by-tests false false true = stops (λ k. omega (arith, k)) refl
+  by-tests false false false = goes refl
 
 module _ (g : Given) (rs : List Record) (f : Fit rs) (out : List ℕ) where
-  abbrev short : Bool
-  short = ltb (length out) (length (g .request))
+  abbrev eight : Bool
+  eight = wrongFresh (asking g) (g .freshCookie) (usedOf rs)
+
+  -- the step where the first refusal is n
+  abbrev stepAt : ℕ → Stepped
+  stepAt n = answerStep (reading n (asking g)) (shortOutput g out) (g .freshCookie) rs
+
+  way-at : (n : ℕ) → Way g rs (stepAt n)
+  unfolding answerStep
+  way-at zero = by-tests g rs (wrongRecords rs) eight (shortOutput g out)
+  way-at (suc n) = go (wrongRecords rs)
+    where
+      go : (six : Bool) → Way g rs (cond six (refuse 6 rs) (refuse (suc n) rs))
+      go true = stops (λ k. omega (arith, k)) refl
+      go false = stops (λ k. omega (arith, k)) refl
 
   way : Way g rs (stepOf g rs out)
+  way = way-at (firstRefusal g)
+
+  -- the refusals after the first
+  abbrev later : ℕ
+  later = cond eight 8 (cond (shortOutput g out) 11 0)
+
+  refusal-at : (n : ℕ) → cond (wrongRecords rs) 6 (cond (not (eqb n 0)) n later) ≡ stepAt n .refusal
   unfolding answerStep
-  way = by-tests g rs (wrongRecords rs) (wrongFresh (asking g) (g .freshCookie) (usedOf rs)) short (eqb (firstRefusal g) 0) (firstRefusal g) refl
+  refusal-at zero = go (wrongRecords rs) eight (shortOutput g out)
+    where
+      go : (six e s : Bool) → cond six 6 (cond e 8 (cond s 11 0)) ≡ cond six (refuse 6 rs) (cond e (refuse 8 rs) (cond s (refuse 11 rs) (done g rs))) .refusal
+      go true e s = refl
+      go false true s = refl
+      go false false true = refl
+      go false false false = refl
+  refusal-at (suc n) = rw (ne-eqb (suc n) 0 (λ k. omega (arith, k))) (go (wrongRecords rs))
+    where
+      go : (six : Bool) → cond six 6 (suc n) ≡ cond six (refuse 6 rs) (refuse (suc n) rs) .refusal
+      go true = refl
+      go false = refl
 
   -- the refusal is the octets'
   refusal-same : answerRefusal g (rowOctets rs) out ≡ stepOf g rs out .refusal
-  unfolding answerRefusal answerStep
-  refusal-same = rw (wrong-is rs f, row-is rs f) (go (wrongRecords rs) (wrongArguments (g .filter) (g .information) (g .server .leap) (g .receive) (g .estimate)))
+  unfolding answerRefusal
+  refusal-same = rw (wrong-is rs f, row-is rs f) (go (wrongRecords rs) (wrongArguments (g .filter) (g .information) (g .server .leap) (g .receive) (g .estimate)) ∙ refusal-at (firstRefusal g))
     where
       sound : ℕ
       sound = soundRefusal (g .request) 3
 
-      eight : Bool
-      eight = wrongFresh (asking g) (g .freshCookie) (usedOf rs)
-
-      last : (zero e s : Bool) → cond (not zero) sound (cond e 8 (cond s 11 0)) ≡ chosen g rs false (not zero) e s sound .refusal
-      last false e s = refl
-      last true true s = refl
-      last true false true = refl
-      last true false false = refl
-
-      go : (six arguments : Bool) → cond (six || arguments) 6 (cond (not (eqb sound 0)) sound (cond eight 8 (cond short 11 0)))
-          ≡ chosen g rs six (not (eqb (cond arguments 6 sound) 0)) eight short (cond arguments 6 sound) .refusal
+      go : (six arguments : Bool) → cond (six || arguments) 6 (cond (not (eqb sound 0)) sound later) ≡ cond six 6 (cond (not (eqb (cond arguments 6 sound) 0)) (cond arguments 6 sound) later)
       go true a = refl
       go false true = refl
-      go false false = last (eqb sound 0) eight short
+      go false false = refl
 
   -- an answer whose step goes on
   answer-done : stepOf g rs out ≡ done g rs → answerRecords g rs out

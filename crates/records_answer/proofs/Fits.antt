@@ -1,6 +1,6 @@
 -- Numbers of 64 bits stay such numbers, whatever is done with the records. Assumes nothing.
 use mathlib.Core.Path.{_≡_, refl}
-use mathlib.Core.Bool.{Bool, true, false, cond, not}
+use mathlib.Core.Bool.{Bool, true, false, cond}
 use mathlib.Core.List.{List, [], _∷_, _++_}
 use Prim.Native.Nat.{ℕ, zero, suc, _+_, _-_, _<_, _^_}
 use native.Mathlib.Omega.{arith}
@@ -8,11 +8,13 @@ use borrow.Author.Tests.{eqb-true}
 use lib.Dec.{eqb, ltb}
 use lib.ListN.{length, take, drop, replicate}
 use Rattle.header.specs.declared.Header.{Header}
+use Rattle.header.specs.declared.Reading.{Reading}
+use Rattle.header.specs.declared.Reading.the-variants.{Fields, Refused}
 use Rattle.store_rules.specs.Row.{Record, held, reported, without, joined, unused, usedOf}
 use Rattle.records.specs.Records.{unusedRecord, Fit, wrongCount, wrongRecords, clearRecords, reportRefusal, reportRecords, leaveRecords, withCookieAtFree, joinRecords}
-use Rattle.responder_rules.specs.Answer.{Given, asking, wantsInterleaved, savedTime, wrongFresh, rowAfter}
+use Rattle.responder_rules.specs.Answer.{Given, wantsInterleaved, savedTime, wrongFresh, rowAfter}
 use Rattle.records_answer.specs.Step.{Stepped, padded, refuse, answerStep}
-use Rattle.records_answer.specs.Answer.{Outcome, firstRefusal, stepOf, answerRecords}
+use Rattle.records_answer.specs.Answer.{Outcome, checkedRequest, shortOutput, stepOf, answerRecords}
 use Rattle.records_answer.specs.Same.{Call, clear, wrong, find, time, report, leave, join, answer, onRecords, Typed}
 
 fit-append : (a b : List Record) → Fit a → Fit b → Fit (a ++ b)
@@ -112,20 +114,23 @@ fit-after asked freshCookie n row h f =
     (fit-append rest (record { cookie = freshCookie; time = 0 } ∷ []) (fit-either (ltb (length left) n) left (drop 1 left) g (fit-drop 1 left g)) (h, omega arith, tt))
     f
 
-fit-answer : (first : ℕ) (short : Bool) (asked : Header) (freshCookie : ℕ) (rs : List Record) → freshCookie < 2 ^ 64 → Fit rs → Fit (answerStep first short asked freshCookie rs .records)
+fit-answer : (request : Reading) (short : Bool) (freshCookie : ℕ) (rs : List Record) → freshCookie < 2 ^ 64 → Fit rs → Fit (answerStep request short freshCookie rs .records)
 unfolding answerStep
-fit-answer first short asked freshCookie rs h f = go (wrongRecords rs) (not (eqb first 0)) (wrongFresh asked freshCookie (usedOf rs)) short
+fit-answer (Refused n) short freshCookie rs h f = go (wrongRecords rs)
+  where
+    go : (six : Bool) → Fit (cond six (refuse 6 rs) (refuse n rs) .records)
+    go true = f
+    go false = f
+fit-answer (Fields asked) short freshCookie rs h f = go (wrongRecords rs) (wrongFresh asked freshCookie (usedOf rs)) short
   where
     row : List Record
     row = rowAfter asked freshCookie (length rs) (usedOf rs)
 
-    go : (six request eight eleven : Bool) → Fit (cond six (refuse 6 rs) (cond request (refuse first rs) (cond eight (refuse 8 rs) (cond eleven (refuse 11 rs)
-        (record { refusal = 0; saved = savedTime asked (usedOf rs); records = padded (length rs) row })))) .records)
-    go true b c d = f
-    go false true c d = f
-    go false false true d = f
-    go false false false true = f
-    go false false false false = fit-append row (replicate (length rs - length row) unusedRecord) (fit-after asked freshCookie (length rs) (usedOf rs) h (fit-used rs f)) (fit-unused (length rs - length row))
+    go : (six eight eleven : Bool) → Fit (cond six (refuse 6 rs) (cond eight (refuse 8 rs) (cond eleven (refuse 11 rs) (record { refusal = 0; saved = savedTime asked (usedOf rs); records = padded (length rs) row }))) .records)
+    go true c d = f
+    go false true d = f
+    go false false true = f
+    go false false false = fit-append row (replicate (length rs - length row) unusedRecord) (fit-after asked freshCookie (length rs) (usedOf rs) h (fit-used rs f)) (fit-unused (length rs - length row))
 
 -- an answer leaves the records of its step
 pub answer-records : (g : Given) (rs : List Record) (out : List ℕ) → answerRecords g rs out .records ≡ stepOf g rs out .records
@@ -144,4 +149,4 @@ fit-step (time at) rs t f = f
 fit-step (report c t′) rs t f = fit-report rs c t′ t f
 fit-step (leave at) rs t f = fit-leave rs at f
 fit-step (join c) rs t f = fit-join rs c t f
-fit-step (answer g out) rs t f = rw (answer-records g rs out) (fit-answer (firstRefusal g) (ltb (length out) (length (g .request))) (asking g) (g .freshCookie) rs t f)
+fit-step (answer g out) rs t f = rw (answer-records g rs out) (fit-answer (checkedRequest g) (shortOutput g out) (g .freshCookie) rs t f)

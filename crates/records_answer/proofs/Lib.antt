@@ -2,3 +2,5 @@
 pub mod Fits
 pub mod Answering
 pub mod Runs
+pub mod Padded
+pub mod Stepping

@@ -15,7 +15,7 @@ use Rattle.store_rules.proofs.Stores.{Stores, store-read, stores-right, stores-
 use Rattle.store_rules.proofs.Steps.{stores-removed, stores-reported, stores-joined}
 use Rattle.store_rules.proofs.Changed.{place-reported}
 use Rattle.records.specs.Records.{recordsIn, unusedRecord, Fit, wrongRecords, reportRefusal, reportRecords, leaveRecords, joinRecords}
-use Rattle.records.proofs.Sounds.{held-row, time-row, right-sound}
+use Rattle.records.proofs.Sounds.{held-row, time-row, time-at, right-sound}
 use Rattle.records.proofs.Encoding.{size-is, row-octets, row-is, wrong-is, place-is, time-is}
 use Rattle.records.proofs.Sameness.{clear-same, report-same, report-octets, unrefused, leave-same, join-same}
 use Rattle.responder_rules.specs.Answer.{Given, asking, rowAfter}
@@ -66,16 +66,6 @@ pub same : Same
 same slice f cs ts = same-calls (recordsIn slice) f cs ts
 
 -- ---- the row's calls
-
--- the time of a cookie stands where the cookie does
-time-at : (c : ℕ) (rs : List Record) → timeOf c rs ≡ getD rs (indexOf c rs) unusedRecord .time
-unfolding timeOf indexOf
-time-at c [] = refl
-time-at c (r ∷ rs) = go (eqb (r .cookie) c) (time-at c rs)
-  where
-    go : (b : Bool) → timeOf c rs ≡ getD rs (indexOf c rs) unusedRecord .time → cond b (r .time) (timeOf c rs) ≡ getD (r ∷ rs) (cond b 0 (1 + indexOf c rs)) unusedRecord .time
-    go true e = refl
-    go false e = let o : 1 + indexOf c rs ≡ suc (indexOf c rs) = omega arith in rw o e
 
 -- records whose octets are a store hold its row
 holds : (rs : List Record) → Fit rs → (s : List ℕ) → s ≡ rowOctets rs → (n : ℕ) (row : List Record) → Stores s n row → Holds row rs

@@ -1,9 +1,11 @@
 -- Document 01, "Responder and store": the answer to a request where the row is a slice of records, for any records lent.
-use mathlib.Core.Bool.{cond}
+use mathlib.Core.Bool.{Bool, cond}
 use mathlib.Core.List.{List, _++_}
 use Prim.Native.Nat.{ℕ}
 use lib.Dec.{eqb, ltb}
 use lib.ListN.{length, drop}
+use Rattle.header.specs.Header.{reading}
+use Rattle.header.specs.declared.Reading.{Reading}
 use Rattle.chain.specs.Chain.{soundRefusal}
 use Rattle.store_rules.specs.Row.{Record, usedOf}
 use Rattle.responder_rules.specs.Answer.{Given, asking, answerOctets, wrongArguments}
@@ -15,9 +17,17 @@ use Rattle.records_answer.specs.Step.{Stepped, answerStep}
 abbrev pub firstRefusal : Given → ℕ
 firstRefusal g = cond (wrongArguments (g .filter) (g .information) (g .server .leap) (g .receive) (g .estimate)) 6 (soundRefusal (g .request) 3)
 
+-- the header of the request, or what it or the arguments are refused by
+abbrev pub checkedRequest : Given → Reading
+checkedRequest g = reading (firstRefusal g) (asking g)
+
+-- the output is shorter than the answer
+abbrev pub shortOutput : Given → (out : List ℕ) → Bool
+shortOutput g out = ltb (length out) (length (g .request))
+
 -- the step of an answer
 abbrev pub stepOf : Given → List Record → (out : List ℕ) → Stepped
-stepOf g rs out = answerStep (firstRefusal g) (ltb (length out) (length (g .request))) (asking g) (g .freshCookie) rs
+stepOf g rs out = answerStep (checkedRequest g) (shortOutput g out) (g .freshCookie) rs
 
 -- all that an answer returns and leaves
 pub record Outcome : Type 0 where

@@ -1,4 +1,5 @@
 -- The answer of document 01 with the saved timestamps as a slice of records.
 pub mod Step
+pub mod Value
 pub mod Answer
 pub mod Same

@@ -1,1 +1,49 @@
-// The answer from a slice of records.
+// The answer to a request, with the saved timestamps of interleaved mode in a lent slice of records.
+mod value;
+
+use header::Reading;
+use header::ServerCookie;
+use records::Record;
+ghost use mathlib.Core.Path.{_≡_};
+ghost use Rattle.records.specs.Records.{recordsIn};
+ghost use Rattle.records_answer.specs.Step.{Stepped, answerStep};
+
+// What the step of an answer on the records returns: its refusal, and the saved time that is sent, 0 in a basic answer.
+pub struct Step {
+    pub refusal: u8,
+    pub saved: u64,
+}
+
+// The one step of an answer on the records: it decides all the refusals that are left, and where there is none, the record whose time is sent leaves and
+// the fresh cookie joins. `request` is its header or what it is refused by; `short`: the output is shorter than the answer.
+pub fn answer_step(
+    records: &mut [Record],
+    request: Reading,
+    short: bool,
+    fresh_cookie: ServerCookie,
+) -> Step
+    ensures { λ r. ⌜ _≡_ {A = Stepped} (record { refusal = r .refusal; saved = r .saved; records = recordsIn (now (records .exit)) })
+        (answerStep request short («fresh_cookie» .0) (recordsIn (now (records .entry)))) ⌝ }
+{
+    let is_wrong = records::wrong(records);
+    let fresh_at = records::find(records, 0, fresh_cookie);
+    let at = records::find(records, 0, value::asked_cookie(request));
+    let time = records::time(records, at);
+    let n = records.len();
+    let plan = value::plan_of(
+        is_wrong,
+        request,
+        short,
+        fresh_cookie,
+        n,
+        fresh_at,
+        at,
+        time,
+    );
+    if plan.unchanged {
+        return plan.step;
+    }
+    records::leave(records, plan.leaving);
+    records::join(records, fresh_cookie);
+    plan.step
+}
