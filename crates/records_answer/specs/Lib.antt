@@ -2,4 +2,5 @@
 pub mod Step
 pub mod Value
 pub mod Answer
+pub mod Sent
 pub mod Same

@@ -1,12 +1,16 @@
 // The answer to a request, with the saved timestamps of interleaved mode in a lent slice of records.
+mod datagram;
 mod value;
 
 use header::Reading;
 use header::ServerCookie;
 use records::Record;
+pub use responder_rules::Answered;
+pub use responder_rules::Server;
 ghost use mathlib.Core.Path.{_≡_};
 ghost use Rattle.records.specs.Records.{recordsIn};
 ghost use Rattle.records_answer.specs.Step.{Stepped, answerStep};
+ghost use Rattle.records_answer.specs.Answer.{outcome, answerRecords};
 
 // What the step of an answer on the records returns: its refusal, and the saved time that is sent, 0 in a basic answer.
 pub struct Step {
@@ -46,4 +50,44 @@ pub fn answer_step(
     records::leave(records, plan.leaving);
     records::join(records, fresh_cookie);
     plan.step
+}
+
+// Answers a request: the answer goes to the start of `out` and is as long as the request. `fresh_cookie` is looked at only where the request wants an
+// interleaved answer.
+pub fn answer(
+    records: &mut [Record],
+    request: &[u8],
+    receive: u64,
+    estimate: u64,
+    fresh_cookie: ServerCookie,
+    server: Server,
+    filter: &[u8],
+    information: &[u8],
+    out: &mut [u8],
+) -> Answered
+    ensures { λ r. ⌜ outcome r (now (out .exit)) (recordsIn (now (records .exit))) ≡ answerRecords (record {
+      request = now (request .entry);
+      receive = receive;
+      estimate = estimate;
+      freshCookie = «fresh_cookie» .0;
+      server = server;
+      filter = now (filter .entry);
+      information = now (information .entry);
+    }) (recordsIn (now (records .entry))) (now (out .entry)) ⌝ }
+{
+    let checked = datagram::checked(request, filter, information, server.leap, receive, estimate);
+    let short = out.len() < request.len();
+    let step = answer_step(records, checked, short, fresh_cookie);
+    datagram::sent(
+        step,
+        checked,
+        request,
+        receive,
+        estimate,
+        fresh_cookie,
+        server,
+        filter,
+        information,
+        out,
+    )
 }
