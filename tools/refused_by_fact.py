@@ -42,7 +42,7 @@ def main():
             crate, label = log.split(os.sep)[-3:-1]
             print(f"{crate}/{label}: refused for its shape only: {error[:200] or 'no error line'}")
     print(f"{len(logs)} of {len(edits)} edits have a log, {len(logs) - unfit} were refused because a fact no longer holds")
-    return 1 if unfit or len(logs) != len(edits) else 0
+    return 1 if unfit or not logs or len(logs) != len(edits) else 0
 
 
 if __name__ == "__main__":

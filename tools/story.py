@@ -20,8 +20,11 @@ def main():
     for line in cases:
         call = line.split("#")[0].strip()
         if call:
+            result = next(answered, None)
+            if result is None:
+                sys.exit(f"story.py: no result of {short(call)}")
             print(f"    call    {short(call)}")
-            print(f"    result  {short(next(answered, 'none'))}")
+            print(f"    result  {short(result)}")
         else:
             print(line[2:] if line.startswith("# ") else line)
     left = list(answered)

@@ -15,7 +15,7 @@ use Rattle.chain.specs.declared.cursor.Step.{Step}
 use Rattle.chain.specs.declared.cursor.Step.the-variants.{Found, End}
 use Rattle.field_role.specs.declared.Met.{Met}
 use Rattle.field_role.specs.declared.Role.{Role}
-use Rattle.chain.proofs.Steps.{Stopped, at-an-end, at-end, reached, reached-exactly}
+use Rattle.chain.proofs.Steps.{Stopped, at-an-end, at-end, reached, place-reached}
 use Rattle.chain.proofs.Contents.{chain-append}
 use Rattle.chain.proofs.Fields.{no-field, next-field}
 use Rattle.field_role.proofs.Roles.{Suits, suits-with, metOf, met-next, role-met, unanswered-role, unanswered-met}
@@ -91,7 +91,7 @@ module _ (s filter information out₀ : List ℕ) where
           let a = p .low in
           let b = p .same in
           let r = reached s place t f c e q in
-          omega (arith, reached-exactly s place f c (sym e ∙ q))
+          omega (arith, place-reached s place f c (sym e ∙ q) .0)
 
       pub pass-goes-on : {role : Role} {next : ℕ} {out′ : List ℕ} {m′ : Met} → role ≡ roleWith s f m → m′ ≡ metAfter m (f .kind)
           → WrittenAt out at (chainOctets (answerTo filter information f role)) next out′ → Passing s filter information out₀ (c .at) m′ next out′
@@ -102,7 +102,7 @@ module _ (s filter information out₀ : List ℕ) where
           let r = reached s place t f c e q in
           record {
             same = written .0 ∙ b;
-            low = omega (arith, reached-exactly s place f c (sym e ∙ q));
+            low = omega (arith, place-reached s place f c (sym e ∙ q) .0);
             high = r .1;
             rest = λ end u rest k. p .rest end u (rw (pass-next s filter information place t e m f c q, chain-append, ← er, ← em) (written-next l rest (omega arith))) k;
           }

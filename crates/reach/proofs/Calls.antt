@@ -12,10 +12,10 @@ use lib.ListN.{length, replicate, length-replicate, getD, set, length-set}
 use lib.Seq.{getD-set-same}
 use Rattle.octets.proofs.Written.{zeros-octets}
 use Rattle.chain.specs.Field.{firstOf}
-use Rattle.chain.specs.Content.{Content, chainOctets, placed}
+use Rattle.chain.specs.Content.{Content, chainOctets, AllFit, placed}
 use Rattle.chain.specs.declared.find.Occurrence.{Occurrence}
 use Rattle.chain.specs.declared.find.Occurrence.the-variants.{At, Absent}
-use Rattle.chain.proofs.Contents.{AllFit, AllOctets}
+use Rattle.chain.proofs.Contents.{AllOctets}
 use Rattle.poll_request.specs.Request.{pollLength}
 use Rattle.exchange.specs.Response.{withChunk, responseOf}
 use Rattle.exchange.specs.declared.response.Response.{Response}

@@ -46,8 +46,8 @@ module _ (s : List ℕ) (o : Octets s) (right : wrongStore s ≡ false) where
     leave-none z = rw (eq-eqb time 0 z) (stored .content)
 
     -- else its record leaves
-    pub leave-done : (time ≡ 0 → ⊥) → {t : List ℕ} → t ≡ removed s (placeOf s c) → t ≡ storeOctets (sizeOf s) left
-    leave-done n q = q ∙ rw (ne-eqb time 0 n) (place-removed stored c (time-held c (rowOf s) (λ z. n (e ∙ z))))
+    pub leave-record : (time ≡ 0 → ⊥) → {t : List ℕ} → t ≡ removed s (placeOf s c) → t ≡ storeOctets (sizeOf s) left
+    leave-record n q = q ∙ rw (ne-eqb time 0 n) (place-removed stored c (time-held c (rowOf s) (λ z. n (e ∙ z))))
 
     -- what is left is a store again
     left-stored : Stores (storeOctets (sizeOf s) left) (sizeOf s) left
@@ -69,8 +69,8 @@ module _ (s : List ℕ) (o : Octets s) (right : wrongStore s ≡ false) where
     time-wanted b = e ∙ rw b
 
     -- else the fresh cookie joins what is left
-    pub keep-done : wantsInterleaved asked ≡ true → {t u : List ℕ}
+    pub keep-joined : wantsInterleaved asked ≡ true → {t u : List ℕ}
         → t ≡ storeOctets (sizeOf s) (cond (eqb time 0) (rowOf s) (without (asked .«server_cookie» .0) (rowOf s)))
         → u ≡ joinedOctets t freshCookie → u ≡ storeOctets (sizeOf s) (rowAfter asked freshCookie (sizeOf s) (rowOf s))
-    keep-done b p q =
+    keep-joined b p q =
         q ∙ rw (p, place-joined (left-stored (asked .«server_cookie» .0) time (time-wanted b)) freshCookie) (rw (← e, b))

@@ -9,8 +9,8 @@ use lib.ListN.{length, drop, length-append, length-drop}
 use lib.Seq.{take-at}
 use Rattle.header.specs.Header.{headerOctets, written}
 use Rattle.header.specs.declared.Header.{Header}
-use Rattle.header.proofs.Refusals.{accepted, in-room}
-use Rattle.header.proofs.RoundTrip.{length-octetsOf}
+use Rattle.header.proofs.Refusals.{passes, in-room}
+use Rattle.header.proofs.RoundTrip.{length-header}
 use Rattle.chain.specs.Chain.{soundRefusal}
 use Rattle.chain.specs.Content.{chainOctets}
 use Rattle.chain.proofs.Datagrams.{header-passes}
@@ -19,7 +19,7 @@ use Rattle.answer_fields.specs.Fields.{wrongSizes, fieldsWritten}
 
 -- the length of a sound request
 pub request-size : (s : List ℕ) → soundRefusal s 3 ≡ 0 → (48 ≤ length s) × (length s ≤ 1280) × (length s % 4 ≡ 0)
-request-size s e = let a = accepted s 3 (header-passes s 3 e) in (a .low, a .high, a .four)
+request-size s e = let a = passes s 3 (header-passes s 3 e) in (a .low, a .high, a .four)
 
 module _ (h : Header) (s filter information out : List ℕ) (e : soundRefusal s 3 ≡ 0) (same : length out ≡ length s) where
   -- the header is written
@@ -32,10 +32,10 @@ module _ (h : Header) (s filter information out : List ℕ) (e : soundRefusal s 
     sizes-right : wrongSizes s filter information l ≡ false
     sizes-right =
         let size = request-size s e in
-        let long : length l ≡ length s = ap length w ∙ simp (length-append, length-octetsOf, length-drop) (omega arith) in
+        let long : length l ≡ length s = ap length w ∙ simp (length-append, length-header, length-drop) (omega arith) in
         rw (eq-eqb _ _ octets, eq-eqb _ _ four, le-ltb _ _ (size .0), le-ltb _ _ (size .1), eq-eqb _ _ (size .2), eq-eqb _ _ long)
 
     -- and the fields after it
     pub answer-put : {n : List ℕ} → n ≡ fieldsWritten s filter information l → n ≡ headerOctets h ++ chainOctets (answerFields s filter information)
     unfolding fieldsWritten
-    answer-put q = q ∙ rw (sizes-right, w, take-at (headerOctets h) (drop 48 out) 48 (length-octetsOf h))
+    answer-put q = q ∙ rw (sizes-right, w, take-at (headerOctets h) (drop 48 out) 48 (length-header h))

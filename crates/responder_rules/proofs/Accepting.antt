@@ -1,62 +1,90 @@
--- What an answer returns where it is refused and where it is not; then its request and arguments are accepted. Assumes nothing.
-use mathlib.Core.Path.{_≡_, refl}
-use mathlib.Core.Bool.{Bool, true, false, cond, not, _||_}
+-- When an answer is refused, and what it returns where it is and where it is not. Assumes nothing.
+use mathlib.Core.Path.{_≡_, refl, ap, _∙_}
+use mathlib.Core.Bool.{Bool, true, false, cond, not, _&&_, _||_}
 use mathlib.Core.List.{List, _++_}
 use Prim.Native.Nat.{ℕ, zero, suc}
 use native.Mathlib.Omega.{arith}
-use borrow.Author.Tests.{ltb-false, eq-eqb, eqb-true, ne-eqb, not-false}
-use lib.Dec.{eqb}
-use lib.ListN.{length, drop}
+use borrow.Author.Tests.{ltb-false, le-ltb, eq-eqb, eqb-true, eqb-false, ne-eqb, not-false}
+use lib.Dec.{eqb, ltb}
+use lib.ListN.{length, take, drop}
+use lib.Seq.{take-at}
 use Rattle.chain.specs.Chain.{soundRefusal}
-use Rattle.store_rules.specs.Row.{rowOf, storeOctets, sizeOf, wrongStore}
+use Rattle.store_rules.specs.Row.{Record, held, rowOf, storeOctets, sizeOf, wrongStore}
 use Rattle.store_rules.proofs.Rows.{or-none}
-use Rattle.responder_rules.specs.Answer.{Given, Outcome, wrongArguments, wrongFresh, answerRefusal, answerOctets, answerOf, rowAfter, asking}
-use Rattle.responder_rules.specs.Claim.{Accepted, InRange, AnswerClaim}
-use Rattle.responder_rules.proofs.Answers.{answer-claim}
+use Rattle.responder_rules.specs.Answer.{Given, Outcome, wantsInterleaved, wrongArguments, wrongFresh, answerRefusal, answerOctets, answerOf, rowAfter, asking}
+use Rattle.responder_rules.specs.Claim.{Accepted, InRange, AnswerClaim, Answerable}
+use Rattle.responder_rules.proofs.Answers.{answer-size, answer-claim}
 
 -- a refusal that is not given
 pub not-given : (b : Bool) (n m : ℕ) → cond b (suc n) m ≡ 0 → (b ≡ false) × (m ≡ 0)
 not-given true n m e = absurd (omega arith)
 not-given false n m e = (refl, e)
 
+-- of two results, chosen by whether a refusal is 0, the number is that refusal
+pub by-refusal : {A : Type 0} (number : A → ℕ) (n : ℕ) {w v : A} → number w ≡ 0 → number v ≡ n → number (cond (eqb n 0) w v) ≡ n
+by-refusal number zero e f = e
+by-refusal number (suc n) {w} {v} e f = ap (λ (b : Bool). number (cond b w v)) (ne-eqb (suc n) 0 (λ z. omega arith)) ∙ f
+
 -- the refusal of the request, before others
 request-passes : (n m : ℕ) → cond (not (eqb n 0)) n m ≡ 0 → (n ≡ 0) × (m ≡ 0)
 request-passes zero m e = (refl, e)
 request-passes (suc n) m e = absurd (omega (arith, rw (ne-eqb (suc n) 0 (λ e. omega arith)) at e))
 
--- an answer that is not refused has its request and its arguments accepted
-pub answer-accepted : (g : Given) (store out : List ℕ) → answerRefusal g store out ≡ 0 → Accepted g
+-- a fresh cookie that is needed and not wrong
+right-fresh : (wants : Bool) (freshCookie : ℕ) (row : List Record) → wants && (eqb freshCookie 0 || held freshCookie row) ≡ false → wants ≡ true
+    → (freshCookie ≡ 0 → ⊥) × (held freshCookie row ≡ false)
+right-fresh wants freshCookie row h w = let p = or-none (eqb freshCookie 0) (held freshCookie row) (rw w at h) in (eqb-false freshCookie 0 (p .0), p .1)
+
+fresh-right : (wants : Bool) (freshCookie : ℕ) (row : List Record) → (wants ≡ true → (freshCookie ≡ 0 → ⊥) × (held freshCookie row ≡ false))
+    → wants && (eqb freshCookie 0 || held freshCookie row) ≡ false
+fresh-right true freshCookie row h = rw (ne-eqb freshCookie 0 (h refl .0)) (h refl .1)
+fresh-right false freshCookie row h = refl
+
+-- no refusal applies to an answer that is not refused
+pub answerable : (g : Given) (store out : List ℕ) → answerRefusal g store out ≡ 0 → Answerable g store out
 unfolding answerRefusal
-answer-accepted g store out e =
+answerable g store out e =
     let wrong = wrongArguments (g .filter) (g .information) (g .server .leap) (g .receive) (g .estimate) in
     let first = not-given (wrongStore store || wrong) 5 _ e in
-    let arguments = or-none (wrongStore store) wrong (first .0) .1 in
-    let four = or-none _ (eqb (g .estimate) 0) arguments .0 in
-    let three = or-none _ (eqb (g .receive) 0) four .0 in
-    let two = or-none _ _ three in
+    let arguments = or-none (wrongStore store) wrong (first .0) in
+    let four = or-none _ (eqb (g .estimate) 0) (arguments .1) in
+    let three = or-none _ (eqb (g .receive) 0) (four .0) in
+    let two = or-none _ _ (three .0) in
     let one = or-none _ _ (two .0) in
+    let second = request-passes (soundRefusal (g .request) 3) _ (first .1) in
+    let third = not-given (wrongFresh (asking g) (g .freshCookie) (rowOf store)) 7 _ (second .1) in
     record {
-      request = request-passes (soundRefusal (g .request) 3) _ (first .1) .0;
-      filter = eqb-true _ _ (not-false _ (one .0));
-      information = eqb-true _ _ (not-false _ (one .1));
-      leap = ltb-false _ _ (two .1);
+      right = arguments .0;
+      accepted = record {
+        request = second .0;
+        filter = eqb-true _ _ (not-false _ (one .0));
+        information = eqb-true _ _ (not-false _ (one .1));
+        leap = ltb-false _ _ (two .1);
+      };
+      receive = eqb-false (g .receive) 0 (three .1);
+      estimate = eqb-false (g .estimate) 0 (four .1);
+      fresh = right-fresh (wantsInterleaved (asking g)) (g .freshCookie) (rowOf store) (third .0);
+      room = ltb-false _ _ (not-given (ltb (length out) (length (g .request))) 10 _ (third .1) .0);
     }
 
--- nor has it a fresh cookie that is needed and wrong
-pub answer-fresh : (g : Given) (store out : List ℕ) → answerRefusal g store out ≡ 0 → wrongFresh (asking g) (g .freshCookie) (rowOf store) ≡ false
+-- and an answer to which none applies is not refused
+pub not-refused : (g : Given) (store out : List ℕ) → Answerable g store out → answerRefusal g store out ≡ 0
 unfolding answerRefusal
-answer-fresh g store out e =
-    let wrong = wrongArguments (g .filter) (g .information) (g .server .leap) (g .receive) (g .estimate) in
-    let first = not-given (wrongStore store || wrong) 5 _ e in
-    let second = request-passes (soundRefusal (g .request) 3) _ (first .1) in
-    not-given (wrongFresh (asking g) (g .freshCookie) (rowOf store)) 7 _ (second .1) .0
+not-refused g store out a =
+    let c = a .accepted in
+    let filter = eq-eqb (length (g .filter)) 512 (c .filter) in
+    let information = eq-eqb (length (g .information)) 4 (c .information) in
+    let leap = le-ltb 3 (g .server .leap) (c .leap) in
+    let receive = ne-eqb (g .receive) 0 (a .receive) in
+    let estimate = ne-eqb (g .estimate) 0 (a .estimate) in
+    let fresh = fresh-right (wantsInterleaved (asking g)) (g .freshCookie) (rowOf store) (a .fresh) in
+    rw (a .right, filter, information, leap, receive, estimate, c .request, fresh, le-ltb (length out) (length (g .request)) (a .room))
 
--- and its store is not wrong
+pub answer-accepted : (g : Given) (store out : List ℕ) → answerRefusal g store out ≡ 0 → Accepted g
+answer-accepted g store out e = answerable g store out e .accepted
+
 pub answer-stored : (g : Given) (store out : List ℕ) → answerRefusal g store out ≡ 0 → wrongStore store ≡ false
-unfolding answerRefusal
-answer-stored g store out e =
-    let wrong = wrongArguments (g .filter) (g .information) (g .server .leap) (g .receive) (g .estimate) in
-    or-none (wrongStore store) wrong (not-given (wrongStore store || wrong) 5 _ e .0) .0
+answer-stored g store out e = answerable g store out e .right
 
 -- what an answer returns where its refusal is 0
 pub answer-written : (g : Given) (store out : List ℕ) → answerRefusal g store out ≡ 0 → answerOf g store out ≡ record {
@@ -77,12 +105,14 @@ answer-refused g store out h = rw (ne-eqb _ 0 h)
 -- the number that an answer returns is its refusal
 pub answer-number : (g : Given) (store out : List ℕ) → answerOf g store out .refusal ≡ answerRefusal g store out
 unfolding answerOf
-answer-number g store out = go (answerRefusal g store out) _ refl _ refl
-  where
-    go : (n : ℕ) (w : Outcome) → w .refusal ≡ 0 → (v : Outcome) → v .refusal ≡ n → cond {A = Outcome} (eqb n 0) w v .refusal ≡ n
-    go zero w e v f = e
-    go (suc n) w e v f = rw (ne-eqb (suc n) 0 (λ e. omega arith)) f
+answer-number g store out = by-refusal (λ (w : Outcome). w .refusal) (answerRefusal g store out) refl refl
 
 -- the claim, of each answer that is not refused
-pub answer-given : (g : Given) (store out : List ℕ) → answerRefusal g store out ≡ 0 → InRange g (rowOf store) → AnswerClaim g (rowOf store)
+pub answer-given : (g : Given) (store out : List ℕ) → answerRefusal g store out ≡ 0 → InRange g (rowOf store) → AnswerClaim g (rowOf store) (answerOctets g (rowOf store))
 answer-given g store out e r = answer-claim g (rowOf store) (answer-accepted g store out e) r
+
+-- the octets that it writes
+pub answer-sent : (g : Given) (store out : List ℕ) → answerRefusal g store out ≡ 0 → let w = answerOf g store out in take (w .size) (w .out) ≡ answerOctets g (rowOf store)
+answer-sent g store out e =
+    ap (λ (w : Outcome). take (w .size) (w .out)) (answer-written g store out e)
+    ∙ take-at (answerOctets g (rowOf store)) (drop (length (g .request)) out) (length (g .request)) (answer-size g (answer-accepted g store out e) (rowOf store))

@@ -9,17 +9,18 @@ use lib.ListN.{length, take, drop, length-append}
 use lib.Seq.{drop-at}
 use Rattle.header.specs.Header.{headerOf, headerOctets}
 use Rattle.header.specs.declared.Header.{Header}
-use Rattle.header.proofs.Refusals.{accepted, refusal-none, Accepted as Passed}
-use Rattle.header.proofs.RoundTrip.{length-octetsOf, read-written, version-written, mode-written, read-in-range, InRange as HeaderRange}
+use Rattle.header.specs.Claim.{Passes, InRange as HeaderRange}
+use Rattle.header.proofs.Refusals.{passes, refusal-none}
+use Rattle.header.proofs.RoundTrip.{length-header, read-written, version-written, mode-written, read-in-range}
 use Rattle.chain.specs.Chain.{soundRefusal, chainRefusal}
 use Rattle.chain.specs.Field.{fieldsOf}
-use Rattle.chain.specs.Content.{Content, chainOctets, placed, contentsOf}
+use Rattle.chain.specs.Content.{Content, chainOctets, AllFit, placed, contentsOf}
 use Rattle.field_role.specs.Role.{roleOf}
 use Rattle.chain.specs.declared.cursor.Field.{Field}
 use Rattle.field_role.specs.declared.Role.the-variants.{FilterRequest}
 use Rattle.chain.proofs.Datagrams.{header-passes, sound-datagram}
 use Rattle.field_role.proofs.Roles.{Suits, suits}
-use Rattle.chain.proofs.Contents.{AllFit, fit-append, chain-fours, length-chain-append, fields-written, chain-written, contents-written}
+use Rattle.chain.proofs.Contents.{fit-append, chain-fours, length-chain-append, fields-written, chain-written, contents-written}
 use Rattle.store_rules.specs.Row.{Record, timeOf}
 use Rattle.responder_rules.specs.Answer.{Given, wantsInterleaved, savedTime, sentHeader, answersTo, paddingOf, answerFields, answerOctets, asking, sentFields}
 use Rattle.responder_rules.specs.Claim.{Accepted, InRange, AnswerClaim}
@@ -33,8 +34,8 @@ module _ (g : Given) (a : Accepted g) where
   left = length (g .request) - (48 + length (chainOctets answers))
 
   -- none of refusals 1, 2 and 3 applies to the request
-  passed : Passed (g .request) 3
-  passed = accepted (g .request) 3 (header-passes (g .request) 3 (a .request))
+  passed : Passes (g .request) 3
+  passed = passes (g .request) 3 (header-passes (g .request) 3 (a .request))
 
   -- the answers and the padding fill what stands after the header
   pub fields-size : length (chainOctets (sentFields g)) ≡ length (g .request) - 48
@@ -59,7 +60,7 @@ module _ (g : Given) (a : Accepted g) where
   answer-size row =
       let p = passed in
       let h = sentHeader g row in
-      omega (arith, length-append (headerOctets h) (chainOctets (sentFields g)), length-octetsOf h, fields-size)
+      omega (arith, length-append (headerOctets h) (chainOctets (sentFields g)), length-header h, fields-size)
 
   -- a filter response is as long as what was asked
   responses : (before : List Field) (f : Field) (offset : ℕ) → roleOf (g .request) before f ≡ FilterRequest offset
@@ -76,7 +77,7 @@ module _ (g : Given) (a : Accepted g) where
     chain-passes : chainRefusal (drop 48 (answerOctets g row)) ≡ 0
     unfolding answerOctets
     chain-passes =
-        rw (drop-at (headerOctets sent) (chainOctets (sentFields g)) 48 (length-octetsOf sent)) (chain-written (sentFields g) fields-fit)
+        rw (drop-at (headerOctets sent) (chainOctets (sentFields g)) 48 (length-header sent)) (chain-written (sentFields g) fields-fit)
 
     -- an answer is sound where a response is wanted
     pub answer-sound : soundRefusal (answerOctets g row) 4 ≡ 0
@@ -98,12 +99,12 @@ module _ (g : Given) (a : Accepted g) where
     -- its fields are those that the page lists and no others
     pub answer-fields : fieldsOf (answerOctets g row) ≡ placed 48 (sentFields g)
     unfolding answerOctets
-    answer-fields = fields-written (headerOctets sent) (sentFields g) 48 (length-octetsOf sent) fields-fit
+    answer-fields = fields-written (headerOctets sent) (sentFields g) 48 (length-header sent) fields-fit
 
     -- and so are their data
     pub answer-contents : contentsOf (answerOctets g row) (fieldsOf (answerOctets g row)) ≡ sentFields g
     unfolding answerOctets
-    answer-contents = contents-written (headerOctets sent) (sentFields g) 48 (length-octetsOf sent) fields-fit
+    answer-contents = contents-written (headerOctets sent) (sentFields g) 48 (length-header sent) fields-fit
 
 -- the numbers of an answer's header are in range
 
@@ -152,7 +153,7 @@ module _ (g : Given) (row : List Record) (a : Accepted g) (r : InRange g row) wh
       let h = sentHeader g row in
       ap headerOf (append-assoc (headerOctets h) (chainOctets (sentFields g)) t) ∙ read-written h (chainOctets (sentFields g) ++ t) header-range
 
-  pub answer-claim : AnswerClaim g row
+  pub answer-claim : AnswerClaim g row (answerOctets g row)
   answer-claim = record {
     long = answer-size g a row;
     sound = answer-sound g a row;

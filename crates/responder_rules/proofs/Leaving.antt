@@ -1,6 +1,6 @@
 -- What an answer returns and leaves on a store whose row is known, and that it leaves such a store. Assumes nothing.
 use mathlib.Core.Path.{_≡_, refl, sym, ap, _∙_}
-use mathlib.Core.Bool.{Bool, true, false, cond, _&&_, _||_}
+use mathlib.Core.Bool.{Bool, true, false, cond}
 use mathlib.Core.List.{List, [], _∷_, _++_}
 use Prim.Native.Nat.{ℕ, _<_, _≤_, _^_}
 use native.Mathlib.Omega.{arith}
@@ -8,15 +8,15 @@ use borrow.Author.Tests.{eqb-false}
 use lib.Dec.{eqb, lit<}
 use lib.ListN.{length, drop}
 use Rattle.store_rules.specs.Row.{Record, held, timeOf, without, joined, storeOctets}
-use Rattle.store_rules.proofs.Rows.{SoundRow, or-none}
+use Rattle.store_rules.proofs.Rows.{SoundRow}
 use Rattle.store_rules.proofs.Stores.{Stores, store-written, stores-row, stores-size}
 use Rattle.store_rules.proofs.Kept.{length-without, sound-without, without-absent}
 use Rattle.store_rules.proofs.Joins.{length-joined, sound-joined}
-use Rattle.responder_rules.specs.Answer.{Given, asking, wantsInterleaved, savedTime, wrongFresh, answerOctets, rowAfter, answerRefusal, answerOf}
+use Rattle.responder_rules.specs.Answer.{Given, asking, wantsInterleaved, savedTime, answerOctets, rowAfter, answerRefusal, answerOf}
 use Rattle.responder_rules.specs.Claim.{InRange}
 use Rattle.responder_rules.specs.Once.{askedCookie}
 use Rattle.responder_rules.proofs.Answers.{either}
-use Rattle.responder_rules.proofs.Accepting.{answer-fresh, answer-written}
+use Rattle.responder_rules.proofs.Accepting.{answerable, answer-written}
 
 -- the times of a sound row are of 64 bits
 pub sound-times : (row : List Record) → SoundRow row → (cookie : ℕ) → timeOf cookie row < 2 ^ 64
@@ -71,11 +71,6 @@ module _ (basic : Bool) (c : ℕ) (row : List Record) (g : SoundRow row) where
       go true = h
       go false = without-absent c d row h
 
--- a fresh cookie that is needed and not wrong
-right-fresh : (wants : Bool) (freshCookie : ℕ) (row : List Record) → wants && (eqb freshCookie 0 || held freshCookie row) ≡ false → wants ≡ true
-    → (freshCookie ≡ 0 → ⊥) × (held freshCookie row ≡ false)
-right-fresh wants freshCookie row h w = let p = or-none (eqb freshCookie 0) (held freshCookie row) (rw w at h) in (eqb-false freshCookie 0 (p .0), p .1)
-
 -- a saved time stands in the row, and the request wants it
 pub record Saved (g : Given) (row : List Record) : Type 0 where
   pub wanted : wantsInterleaved (asking g) ≡ true
@@ -108,17 +103,13 @@ module _ {s : List ℕ} {n : ℕ} {row : List Record} (w : Stores s n row) (g : 
   next = rowAfter (asking g) (g .freshCookie) n row
 
   -- an answer that is not refused
-  pub answer-done : answerRefusal g s out ≡ 0 → answerOf g s out
+  pub answer-result : answerRefusal g s out ≡ 0 → answerOf g s out
       ≡ record { refusal = 0; size = length (g .request); out = answerOctets g row ++ drop (length (g .request)) out; store = storeOctets n next }
-  answer-done e = answer-written g s out e ∙ rw (stores-row w, stores-size w)
+  answer-result e = answer-written g s out e ∙ rw (stores-row w, stores-size w)
 
-  -- the fresh cookie is not wrong
-  fresh-right : answerRefusal g s out ≡ 0 → wrongFresh (asking g) (g .freshCookie) row ≡ false
-  fresh-right e = ap (wrongFresh (asking g) (g .freshCookie)) (sym (stores-row w)) ∙ answer-fresh g s out e
-
-  -- where one is needed, it is not 0 and not in the row
+  -- where a fresh cookie is needed, it is not 0 and not in the row
   pub fresh-new : answerRefusal g s out ≡ 0 → wantsInterleaved (asking g) ≡ true → (g .freshCookie ≡ 0 → ⊥) × (held (g .freshCookie) row ≡ false)
-  fresh-new e = right-fresh (wantsInterleaved (asking g)) (g .freshCookie) row (fresh-right e)
+  fresh-new e b = let p = answerable g s out e .fresh b in (p .0, ap (held (g .freshCookie)) (sym (stores-row w)) ∙ p .1)
 
   -- the row after it is sound and within its size
   pub answer-stores : g .freshCookie < 2 ^ 64 → answerRefusal g s out ≡ 0 → Stores (storeOctets n next) n next

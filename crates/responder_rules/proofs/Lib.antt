@@ -4,6 +4,9 @@ pub mod Answers
 pub mod Accepting
 pub mod Leaving
 pub mod Reported
-pub mod Owing
-pub mod Sights
-pub mod Spent
+pub mod Exact
+pub mod Unsent
+pub mod Observed
+pub mod SentOnce
+pub mod Refused
+pub mod Idle

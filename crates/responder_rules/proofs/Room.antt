@@ -9,15 +9,15 @@ use lib.Dec.{eqb, lit<}
 use lib.ListN.{length, take, drop, replicate, length-take, length-drop, length-replicate}
 use Rattle.chain.specs.Chain.{padded, stepAt, Walk, onStep, walkFor, walk}
 use Rattle.chain.specs.Field.{fieldsFrom}
-use Rattle.chain.specs.Content.{content, chainOctets, draftName}
+use Rattle.chain.specs.Content.{content, chainOctets, AllFit, draftName}
 use Rattle.field_role.specs.Role.{roleOf}
 use Rattle.chain.specs.declared.cursor.Field.{Field}
 use Rattle.chain.specs.declared.cursor.Step.{Step}
 use Rattle.field_role.specs.declared.Role.{Role}
 use Rattle.field_role.specs.declared.Role.the-variants.{FilterRequest, Information, DraftName, Unknown}
-use Rattle.chain.proofs.Steps.{lengthAt, View, ended, cut, few, past, unclean, sound, view}
+use Rattle.chain.proofs.Steps.{lengthAt, View, ended, cut, few, past, nonzero, sound, view}
 use Rattle.field_role.proofs.Roles.{Suits, suits}
-use Rattle.chain.proofs.Contents.{AllFit, fit-append, length-chain-one, length-chain-append}
+use Rattle.chain.proofs.Contents.{fit-append, length-chain-one, length-chain-append}
 use Rattle.responder_rules.specs.Answer.{answerTo, answersTo, paddingOf}
 
 empty-chain : length (chainOctets []) ≡ 0
@@ -68,7 +68,7 @@ module _ (request filter information : List ℕ) (octets : length filter ≡ 512
   by-step s before at rest h k t (cut a b) = none before at _ h
   by-step s before at rest h k t (few a b) = none before at _ h
   by-step s before at rest h k t (past a b i) = none before at _ h
-  by-step s before at rest h k t (unclean a b i e) = none before at _ h
+  by-step s before at rest h k t (nonzero a b i e) = none before at _ h
   by-step s before at rest h k t (sound a b i e) =
       more before _ _ at (at + padded (lengthAt s at)) (length s) (omega arith) (k _ (at + padded (lengthAt s at)) (omega arith))
 

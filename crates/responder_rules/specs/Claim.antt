@@ -1,6 +1,8 @@
--- What document 01 says of an answer that is sent, as one claim on its octets.
+-- What document 01 says of calls to which no refusal applies. Each claim is about any responder, `EveryAnswerFor step` and so on, and made
+-- of ours, `EveryAnswer`; specs/Idle.antt has responders of which they are false.
 use mathlib.Core.Path.{_≡_}
-use mathlib.Core.List.{List}
+use mathlib.Core.Bool.{true, false}
+use mathlib.Core.List.{List, []}
 use Prim.Native.Nat.{ℕ, _<_, _≤_, _^_}
 use lib.ListN.{length, take, drop}
 use mir.Syntax.{w8}
@@ -13,8 +15,11 @@ use Rattle.chain.specs.Content.{placed, contentsOf}
 use Rattle.field_role.specs.Role.{roleOf}
 use Rattle.chain.specs.declared.cursor.Field.{Field}
 use Rattle.field_role.specs.declared.Role.the-variants.{FilterRequest}
-use Rattle.store_rules.specs.Row.{Record, timeOf}
-use Rattle.responder_rules.specs.Answer.{Given, sentHeader, answerOctets, sentFields}
+use Rattle.store_rules.specs.Row.{Record, held, timeOf, reported, storeOctets, sizeOf, rowOf, wrongStore}
+use Rattle.responder_rules.specs.Answer.{Given, Outcome, asking, wantsInterleaved, sentHeader, sentFields, rowAfter}
+use Rattle.responder_rules.specs.Call.{Call, clear, report, answer, Responder, stepStore}
+
+-- ---- the arguments
 
 -- none of refusals 1 to 5 applies to the request, and the filter, the server information and the leap are not refused by 6
 pub record Accepted (g : Given) : Type 0 where
@@ -39,17 +44,84 @@ pub record InRange (g : Given) (row : List Record) : Type 0 where
   pub dispersion : g .server .«root_dispersion» < 2 ^ 32
   pub times : (cookie : ℕ) → timeOf cookie row < 2 ^ 64
 
-pub record AnswerClaim (g : Given) (row : List Record) : Type 0 where
+-- the arguments are of their types; nothing is asked of the store's row
+abbrev pub Typed : Call → Type 0
+Typed clear = Unit {0}
+Typed (report c t) = (c < 2 ^ 64) × (t < 2 ^ 64)
+Typed (answer g out) = InRange g []
+
+-- ---- an answer
+
+-- what is sent in answer to a request, where the store holds a row
+pub record AnswerClaim (g : Given) (row : List Record) (sent : List ℕ) : Type 0 where
   -- an answer is as long as its request
-  pub long : length (answerOctets g row) ≡ length (g .request)
+  pub long : length sent ≡ length (g .request)
   -- it is sound where a response is wanted
-  pub sound : soundRefusal (answerOctets g row) 4 ≡ 0
+  pub sound : soundRefusal sent 4 ≡ 0
   -- its header reads as the values that went in
-  pub header : headerOf (answerOctets g row) ≡ sentHeader g row
+  pub header : headerOf sent ≡ sentHeader g row
   -- its fields are those that the page lists, each right after the one before it, and no others
-  pub fields : fieldsOf (answerOctets g row) ≡ placed 48 (sentFields g)
+  pub fields : fieldsOf sent ≡ placed 48 (sentFields g)
   -- their types and data are those that the page lists
-  pub contents : contentsOf (answerOctets g row) (fieldsOf (answerOctets g row)) ≡ sentFields g
+  pub contents : contentsOf sent (fieldsOf sent) ≡ sentFields g
   -- a filter response is as long as the filter request that it answers
   pub responses : (before : List Field) (f : Field) (offset : ℕ) → roleOf (g .request) before f ≡ FilterRequest offset
       → length (take (f .size) (drop offset (g .filter))) ≡ f .size
+
+-- none of the refusals that concern an answer applies
+pub record Answerable (g : Given) (store out : List ℕ) : Type 0 where
+  -- 6, and 1 to 5
+  pub right : wrongStore store ≡ false
+  pub accepted : Accepted g
+  pub receive : g .receive ≡ 0 → ⊥
+  pub estimate : g .estimate ≡ 0 → ⊥
+  -- 8: where flag 0x2 is set, the fresh cookie is not 0 and not in the store
+  pub fresh : wantsInterleaved (asking g) ≡ true → (g .freshCookie ≡ 0 → ⊥) × (held (g .freshCookie) (rowOf store) ≡ false)
+  -- 11
+  pub room : length (g .request) ≤ length out
+
+-- all that an answer then returns and leaves
+pub record AnswerSent (g : Given) (store out : List ℕ) (w : Outcome) : Type 0 where
+  pub refusal : w .refusal ≡ 0
+  pub size : w .size ≡ length (g .request)
+  -- the octets that are written
+  pub sent : AnswerClaim g (rowOf store) (take (w .size) (w .out))
+  -- output octets past those written stay as they were
+  pub rest : drop (w .size) (w .out) ≡ drop (w .size) out
+  -- the store holds the row after the answer
+  pub stored : w .store ≡ storeOctets (sizeOf store) (rowAfter (asking g) (g .freshCookie) (sizeOf store) (rowOf store))
+
+-- a request is answered exactly when no refusal applies
+pub record AnswerExact (step : Responder) (g : Given) (store out : List ℕ) : Type 0 where
+  pub only-answerable : step (answer g out) store .refusal ≡ 0 → Answerable g store out
+  pub all-answerable : Answerable g store out → AnswerSent g store out (step (answer g out) store)
+
+-- for any octets lent as a store, of any size
+abbrev pub EveryAnswerFor : Responder → Type 0
+EveryAnswerFor step = (g : Given) (store out : List ℕ) → Typed (answer g out) → Octets store → AnswerExact step g store out
+
+abbrev pub EveryAnswer : Type 0
+EveryAnswer = EveryAnswerFor stepStore
+
+-- ---- a report
+
+-- none of the refusals that concern a report applies
+pub record Reportable (c t : ℕ) (store : List ℕ) : Type 0 where
+  -- 6
+  pub right : wrongStore store ≡ false
+  pub time : t ≡ 0 → ⊥
+  -- 12: the cookie is in the store, and its time is not reported
+  pub in-row : held c (rowOf store) ≡ true
+  pub unreported : timeOf c (rowOf store) ≡ 0
+
+-- a time is taken exactly when no refusal applies, and then its cookie has it
+pub record ReportExact (step : Responder) (c t : ℕ) (store : List ℕ) : Type 0 where
+  pub only-reportable : step (report c t) store .refusal ≡ 0 → Reportable c t store
+  pub all-reportable : Reportable c t store
+      → step (report c t) store ≡ record { refusal = 0; size = 0; out = []; store = storeOctets (sizeOf store) (reported c t (rowOf store)) }
+
+abbrev pub EveryReportFor : Responder → Type 0
+EveryReportFor step = (c t : ℕ) (store : List ℕ) → ReportExact step c t store
+
+abbrev pub EveryReport : Type 0
+EveryReport = EveryReportFor stepStore

@@ -2,42 +2,29 @@
 use mathlib.Core.Path.{_≡_}
 use mathlib.Core.Bool.{Bool, true, false, cond, _&&_}
 use mathlib.Core.List.{List, [], _∷_}
-use Prim.Native.Nat.{ℕ, _<_, _≤_, _^_}
+use Prim.Native.Nat.{ℕ, _≤_}
 use lib.Dec.{eqb}
 use lib.ListN.{length}
 use Rattle.header.specs.Header.{headerOf, interleavedFlag}
-use Rattle.store_rules.specs.Row.{Record, held, timeOf, without, sizeOf, rowOf, wrongSize, wrongStore, cleared, reporting}
-use Rattle.responder_rules.specs.Answer.{Given, asking, Outcome, answerOf}
-use Rattle.responder_rules.specs.Claim.{InRange}
+use Rattle.store_rules.specs.Row.{Record, held, timeOf, without, sizeOf, rowOf, wrongSize, wrongStore}
+use Rattle.responder_rules.specs.Answer.{Given, asking}
+use Rattle.responder_rules.specs.Call.{Call, clear, report, answer, Responder, stepStore}
+use Rattle.responder_rules.specs.Claim.{InRange, Typed}
 
--- ---- calls
-
--- `out` is an answer's output as lent
-pub data Call : Type 0 where
-  clear : Call
-  report : (cookie time : ℕ) → Call
-  answer : (given : Given) (out : List ℕ) → Call
-
--- the arguments are of their types; nothing is asked of the store's row
-abbrev pub Typed : Call → Type 0
-Typed clear = Unit {0}
-Typed (report c t) = (c < 2 ^ 64) × (t < 2 ^ 64)
-Typed (answer g out) = InRange g []
+-- ---- lists of calls
 
 abbrev pub AllTyped : List Call → Type 0
 AllTyped [] = Unit {0}
 AllTyped (c ∷ cs) = Typed c × AllTyped cs
 
--- all that a call on a store returns and leaves
-abbrev pub step : Call → List ℕ → Outcome
-step clear s = record { refusal = cleared s .0; size = 0; out = []; store = cleared s .1 }
-step (report c t) s = record { refusal = reporting s c t .0; size = 0; out = []; store = reporting s c t .1 }
-step (answer g out) s = answerOf g s out
-
 -- the store after calls
-unfoldable pub reached : List Call → List ℕ → List ℕ
-reached [] s = s
-reached (c ∷ cs) s = reached cs (step c s .store)
+unfoldable pub reached : Responder → List Call → List ℕ → List ℕ
+reached step [] s = s
+reached step (c ∷ cs) s = reached step cs (step c s .store)
+
+-- the store once it is cleared
+abbrev pub clearedBy : Responder → List ℕ → List ℕ
+clearedBy step s = step clear s .store
 
 -- ---- what an observer sees, who knows nothing of the store
 
@@ -51,7 +38,7 @@ interleaved refusal out = eqb refusal 0 && interleavedFlag (headerOf out .flags)
 
 pub data Event : Type 0 where
   -- a clear
-  forgets : Event
+  clears : Event
   -- a report that was accepted
   reports : (cookie time : ℕ) → Event
   -- an interleaved answer: the server cookie of its request, and the transmit timestamp of the header that was written
@@ -61,22 +48,22 @@ pub data Event : Type 0 where
 
 -- a call by its arguments, its refusal number and its output afterwards
 abbrev pub eventOf : Call → (refusal : ℕ) (out : List ℕ) → Event
-eventOf clear refusal out = cond (eqb refusal 0) forgets other
+eventOf clear refusal out = cond (eqb refusal 0) clears other
 eventOf (report c t) refusal out = cond (eqb refusal 0) (reports c t) other
 eventOf (answer g lent) refusal out = cond (interleaved refusal out) (sends (askedCookie g) (headerOf out .transmit)) other
 
-unfoldable pub events : List Call → List ℕ → List Event
-events [] s = []
-events (c ∷ cs) s = eventOf c (step c s .refusal) (step c s .out) ∷ events cs (step c s .store)
+unfoldable pub events : Responder → List Call → List ℕ → List Event
+events step [] s = []
+events step (c ∷ cs) s = eventOf c (step c s .refusal) (step c s .out) ∷ events step cs (step c s .store)
 
--- `owed` has the times that were reported and not sent since, for each cookie the last one. A sent time is the one owed to the cookie
--- of its request, and is owed no more
-unfoldable pub balanced : (owed : List Record) → List Event → Bool
-balanced owed [] = true
-balanced owed (forgets ∷ es) = balanced [] es
-balanced owed (reports c t ∷ es) = balanced (record { cookie = c; time = t } ∷ without c owed) es
-balanced owed (sends c t ∷ es) = held c owed && eqb (timeOf c owed) t && balanced (without c owed) es
-balanced owed (other ∷ es) = balanced owed es
+-- `unsent` has the times that were reported and not sent since, for each cookie the last one. A sent time is the one that `unsent` has
+-- for the cookie of its request, and leaves it
+unfoldable pub eachSentOnce : (unsent : List Record) → List Event → Bool
+eachSentOnce unsent [] = true
+eachSentOnce unsent (clears ∷ es) = eachSentOnce [] es
+eachSentOnce unsent (reports c t ∷ es) = eachSentOnce (record { cookie = c; time = t } ∷ without c unsent) es
+eachSentOnce unsent (sends c t ∷ es) = held c unsent && eqb (timeOf c unsent) t && eachSentOnce (without c unsent) es
+eachSentOnce unsent (other ∷ es) = eachSentOnce unsent es
 
 -- ---- the claim
 
@@ -86,17 +73,20 @@ pub record Right (n : ℕ) (s : List ℕ) : Type 0 where
   pub size : sizeOf s ≡ n
   pub within : length (rowOf s) ≤ n
   -- no cookie stands twice: when its record leaves, it is not in the row
-  pub once : (c : ℕ) → held c (without c (rowOf s)) ≡ false
+  pub distinct : (c : ℕ) → held c (without c (rowOf s)) ≡ false
 
-pub record OnceClaim (s : List ℕ) (cs : List Call) : Type 0 where
+pub record OnceClaim (step : Responder) (s : List ℕ) (cs : List Call) : Type 0 where
   -- each reported time is sent at most once, and only in answer to a request with the cookie that it was reported for
-  pub spent : balanced [] (events cs (cleared s .1)) ≡ true
+  pub sent-once : eachSentOnce [] (events step cs (clearedBy step s)) ≡ true
   -- the calls leave a right store, of the size that it had
-  pub kept : Right (sizeOf s) (reached cs (cleared s .1))
+  pub store-right : Right (sizeOf s) (reached step cs (clearedBy step s))
   -- after an interleaved answer the cookie of its request is not in the store
-  pub gone : (g : Given) (out : List ℕ) → InRange g [] → let w = answerOf g (reached cs (cleared s .1)) out in
+  pub record-left : (g : Given) (out : List ℕ) → InRange g [] → let w = step (answer g out) (reached step cs (clearedBy step s)) in
       interleaved (w .refusal) (w .out) ≡ true → held (askedCookie g) (rowOf (w .store)) ≡ false
 
 -- for any octets of the right size and every list of calls
+abbrev pub OnceFor : Responder → Type 0
+OnceFor step = (s : List ℕ) → wrongSize s ≡ false → (cs : List Call) → AllTyped cs → OnceClaim step s cs
+
 abbrev pub Once : Type 0
-Once = (s : List ℕ) → wrongSize s ≡ false → (cs : List Call) → AllTyped cs → OnceClaim s cs
+Once = OnceFor stepStore

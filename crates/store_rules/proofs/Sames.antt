@@ -1,9 +1,8 @@
--- Two numbers are the same where their upper and their lower octets are, and a number is 0 where both are 0. Assumes nothing.
-use mathlib.Core.Path.{_≡_, refl, sym, ap, ap₂, _∙_}
+-- Two numbers are the same where their upper and their lower octets are. Assumes nothing.
+use mathlib.Core.Path.{_≡_, refl, sym, ap, _∙_}
 use mathlib.Core.Bool.{Bool, true, false, _&&_}
 use mathlib.Core.List.{List}
 use Prim.Native.Nat.{ℕ, _+_, _*_, _/_, _%_, _^_, _<_}
-use native.Mathlib.Omega.{arith}
 use borrow.Author.Tests.{eq-eqb, ne-eqb, eqb-true, eqb-false}
 use lib.Arith.{digits-div, digits-mod}
 use lib.Dec.{eqb}
@@ -26,22 +25,14 @@ eqb-digits x y u v d hu hv = go (eqb x y) refl (eqb u v) refl
     go true e false f = ne-eqb _ _ (λ (k : x * d + u ≡ y * d + v). eqb-false u v f (lower k))
     go false e q f = ne-eqb _ _ (λ (k : x * d + u ≡ y * d + v). eqb-false x y e (upper k))
 
-pub same-halves : (s : List ℕ) (a b m n : ℕ) → Octets s
-    → eqb (num s a (m + n)) (num s b (m + n)) ≡ eqb (num s a m) (num s b m) && eqb (num s (a + m) n) (num s (b + m) n)
-same-halves s a b m n o =
-    rw (num-add s a m n, num-add s b m n)
-    (eqb-digits (num s a m) (num s b m) _ _ (256 ^ n) (num-lt s (a + m) n o) (num-lt s (b + m) n o))
+-- of two lists; where the second is empty, its number is 0
 
-pub zero-halves : (s : List ℕ) (a m n : ℕ) → Octets s → eqb (num s a (m + n)) 0 ≡ eqb (num s a m) 0 && eqb (num s (a + m) n) 0
-zero-halves s a m n o =
-    let h = num-lt s (a + m) n o in
-    let z : 0 ≡ 0 * 256 ^ n + 0 = omega arith in
-    ap₂ eqb (num-add s a m n) z ∙ eqb-digits (num s a m) 0 _ 0 (256 ^ n) h (omega arith)
+pub same-halves : (s t : List ℕ) (a b m n : ℕ) → Octets s → Octets t
+    → eqb (num s a (m + n)) (num t b (m + n)) ≡ eqb (num s a m) (num t b m) && eqb (num s (a + m) n) (num t (b + m) n)
+same-halves s t a b m n o p =
+    rw (num-add s a m n, num-add t b m n)
+    (eqb-digits (num s a m) (num t b m) _ _ (256 ^ n) (num-lt s (a + m) n o) (num-lt t (b + m) n p))
 
 -- four octets, as the code compares them
-
-pub same-four : (s : List ℕ) (a b : ℕ) → Octets s → eqb (num s a 4) (num s b 4) ≡ ((eqb (getD s a 0) (getD s b 0) && eqb (getD s (a + 1) 0) (getD s (b + 1) 0)) && eqb (getD s (a + 2) 0) (getD s (b + 2) 0)) && eqb (getD s (a + 3) 0) (getD s (b + 3) 0)
-same-four s a b o = rw (same-halves s a b 3 1 o, same-halves s a b 2 1 o, same-halves s a b 1 1 o) (simp num-one)
-
-pub zero-four : (s : List ℕ) (a : ℕ) → Octets s → eqb (num s a 4) 0 ≡ ((eqb (getD s a 0) 0 && eqb (getD s (a + 1) 0) 0) && eqb (getD s (a + 2) 0) 0) && eqb (getD s (a + 3) 0) 0
-zero-four s a o = rw (zero-halves s a 3 1 o, zero-halves s a 2 1 o, zero-halves s a 1 1 o) (simp num-one)
+pub same-four : (s t : List ℕ) (a b : ℕ) → Octets s → Octets t → eqb (num s a 4) (num t b 4) ≡ ((eqb (getD s a 0) (getD t b 0) && eqb (getD s (a + 1) 0) (getD t (b + 1) 0)) && eqb (getD s (a + 2) 0) (getD t (b + 2) 0)) && eqb (getD s (a + 3) 0) (getD t (b + 3) 0)
+same-four s t a b o p = rw (same-halves s t a b 3 1 o p, same-halves s t a b 2 1 o p, same-halves s t a b 1 1 o p) (simp num-one)

@@ -31,7 +31,7 @@ use Rattle.client_rules.proofs.Demand3.{simulates, good-reached, call-reached, 
 use Rattle.client_rules.proofs.Demand2.{accepts}
 use Rattle.store_rules.specs.Row.{rowOf}
 use Rattle.responder_rules.specs.Answer.{Given, answerRefusal, answerOctets, answerOf}
-use Rattle.responder_rules.proofs.Accepting.{answer-accepted, answer-written, answer-number, answer-given}
+use Rattle.responder_rules.proofs.Accepting.{answer-accepted, answer-number, answer-sent}
 use Rattle.responder_rules.proofs.Room.{response-length}
 use Rattle.together.specs.Together.{Polling, pollChunk, pollOffset, callsOf, Asks, Answers, sentBy, receiving, Exchanged, Together}
 use Rattle.together.proofs.Answered.{chunkAsked, polled-size}
@@ -81,9 +81,7 @@ module _ (k : Polling) (h : Asks k) (g : Given) (store out : List ℕ) (n : Answ
 
   -- what is sent is the answer
   sent : sentBy (answerOf g store out) ≡ answer
-  sent =
-      ap sentBy (answer-written g store out passes)
-      ∙ take-at answer (drop (length (g .request)) out) (length (g .request)) (answer-given g store out passes (n .range) .long)
+  sent = answer-sent g store out passes
 
   serves : Serves q (k .cookie) (g .filter) answer
   serves = served q (k .cookie) (k .exponent) (k .interleaved) (w .ranges) g request store out passes (n .range) (n .filter) (n .stored)

@@ -5,7 +5,7 @@ use text::find;
 use text::piece;
 ghost use mathlib.Core.Path.{_≡_};
 ghost use Prim.Native.Nat.{_%_};
-ghost use Rattle.words.specs.Line.{numberAt, signedAt, wordOf};
+ghost use Rattle.words.specs.Line.{numberAt, bitsAt, signedAt, wordOf};
 
 pub fn u64_at(line: &[u8], word: usize) -> u64
     ensures { λ r. ⌜ r ≡ numberAt (now (line .entry)) word ⌝ }
@@ -15,19 +15,19 @@ pub fn u64_at(line: &[u8], word: usize) -> u64
 }
 
 pub fn u32_at(line: &[u8], word: usize) -> u32
-    ensures { λ r. ⌜ r ≡ numberAt (now (line .entry)) word % 4294967296 ⌝ }
+    ensures { λ r. ⌜ r ≡ bitsAt 32 (now (line .entry)) word ⌝ }
 {
     (u64_at(line, word) % 4294967296) as u32
 }
 
 pub fn u16_at(line: &[u8], word: usize) -> u16
-    ensures { λ r. ⌜ r ≡ numberAt (now (line .entry)) word % 65536 ⌝ }
+    ensures { λ r. ⌜ r ≡ bitsAt 16 (now (line .entry)) word ⌝ }
 {
     (u64_at(line, word) % 65536) as u16
 }
 
 pub fn u8_at(line: &[u8], word: usize) -> u8
-    ensures { λ r. ⌜ r ≡ numberAt (now (line .entry)) word % 256 ⌝ }
+    ensures { λ r. ⌜ r ≡ bitsAt 8 (now (line .entry)) word ⌝ }
 {
     (u64_at(line, word) % 256) as u8
 }

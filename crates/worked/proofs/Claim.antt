@@ -1,15 +1,14 @@
 -- Every row of the table holds: the definitions give what the page says. Assumes nothing.
-use mathlib.Core.Path.{_≡_, refl}
-use mathlib.Core.Bool.{true}
+use mathlib.Core.Path.{refl}
 use Rattle.octets.specs.Number.{num, octets}
 use Rattle.octets.specs.Piece.{spelled}
 use Rattle.header.specs.Header.{headerOctets, refusal}
 use Rattle.chain.specs.Chain.{allZero, stepAt, walkFor, walk, chainRefusal, soundRefusal}
-use Rattle.filter.specs.Positions.{number, positions}
+use Rattle.filter.specs.Positions.{positions}
 use Rattle.filter.specs.Filter.{addAll, countBelow}
 use Rattle.measure.specs.Measure.{difference, offset, delay}
-use Rattle.worked.specs.Cases.{bare, request, table, same, allSame, agree}
+use Rattle.worked.specs.Cases.{bare, request, tableFor, same, allSame, agree, Worked}
 
-pub worked : agree table ≡ true
-unfolding num octets spelled headerOctets refusal allZero stepAt walkFor walk chainRefusal soundRefusal number positions addAll countBelow difference offset delay bare request table same allSame agree
+pub worked : Worked
+unfolding num octets spelled headerOctets refusal allZero stepAt walkFor walk chainRefusal soundRefusal positions addAll countBelow difference offset delay bare request tableFor same allSame agree
 worked = refl

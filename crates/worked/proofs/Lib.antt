@@ -1,2 +1,3 @@
--- The claim about the worked cases. Assumes nothing.
+-- The claims about the worked cases. Assumes nothing.
 pub mod Claim
+pub mod Idle

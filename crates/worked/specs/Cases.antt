@@ -1,10 +1,11 @@
 -- Document 01, "Cases M1 to M12": a row is a case's number, what the definitions give, and what the page says.
+use mathlib.Core.Path.{_≡_}
 use mathlib.Core.Bool.{Bool, true, false, cond, _&&_}
 use mathlib.Core.List.{List, [], _∷_, _++_}
-use Prim.Native.Nat.{ℕ, _+_, _-_, _^_}
+use Prim.Native.Nat.{ℕ, suc, _+_, _-_, _^_}
 use lib.Dec.{eqb}
 use lib.IntN.{ℤ, pos, negsuc, negℤ}
-use lib.ListN.{getD, take, replicate}
+use lib.ListN.{length, getD, take, replicate}
 use Rattle.octets.specs.Number.{octets}
 use Rattle.header.specs.Header.{headerOctets}
 use Rattle.header.specs.declared.Header.{Header}
@@ -52,40 +53,51 @@ abbrev pub padding : ℕ → List ℕ
 padding n = octets 2 0xF501 ++ octets 2 n
 
 -- the refusal of a datagram where a request is wanted
-abbrev pub refused : List ℕ → ℤ
-refused s = pos (soundRefusal s 3)
+abbrev pub refusalOf : List ℕ → ℤ
+refusalOf s = pos (soundRefusal s 3)
+
+-- a measurement gives offset and delay; ours, and any other that the table may be asked of
+abbrev pub Measurement : Type 0
+Measurement = (t1 t2 t3 t4 : ℕ) → ℤ × ℕ
+
+abbrev pub ourMeasurement : Measurement
+ourMeasurement t1 t2 t3 t4 = (offset t1 t2 t3 t4, delay t1 t2 t3 t4)
+
+-- and so for the weight of a filter
+abbrev pub WeightFunction : Type 0
+WeightFunction = List ℕ → ℕ
 
 -- octet k of the filter of an ID alone, and that filter's weight
-abbrev pub filtered : List ℕ → ℕ → List ℤ
-filtered id k = pos (getD (ofId id) k 0) ∷ pos (weight (ofId id)) ∷ []
+abbrev pub filtered : WeightFunction → List ℕ → ℕ → List ℤ
+filtered w id k = pos (getD (ofId id) k 0) ∷ pos (w (ofId id)) ∷ []
 
-abbrev pub measured : (t1 t2 t3 t4 : ℕ) → List ℤ
-measured t1 t2 t3 t4 = offset t1 t2 t3 t4 ∷ pos (delay t1 t2 t3 t4) ∷ []
+abbrev pub measured : Measurement → (t1 t2 t3 t4 : ℕ) → List ℤ
+measured m t1 t2 t3 t4 = m t1 t2 t3 t4 .0 ∷ pos (m t1 t2 t3 t4 .1) ∷ []
 
 -- 1 for a good filter request, 0 for an unknown field
 abbrev pub good : ℕ → ℕ → ℤ
 good at n = pos (cond (goodRequest at n) 1 0)
 
-unfoldable pub table : List Row
-table =
+unfoldable pub tableFor : Measurement → WeightFunction → List Row
+tableFor m w =
     M 1 (firstOctet 0 3 ∷ firstOctet 0 4 ∷ firstOctet 3 4 ∷ []) (pos 0x2B ∷ pos 0x2C ∷ pos 0xEC ∷ [])
     ∷ M 2 (
-    refused (take 47 request)
-    ∷ refused request
-    ∷ refused (request ++ replicate 2 0)
-    ∷ refused (request ++ padding 1232 ++ replicate 1228 0)
-    ∷ refused (request ++ padding 1236 ++ replicate 1232 0)
+    refusalOf (take 47 request)
+    ∷ refusalOf request
+    ∷ refusalOf (request ++ replicate 2 0)
+    ∷ refusalOf (request ++ padding 1232 ++ replicate 1228 0)
+    ∷ refusalOf (request ++ padding 1236 ++ replicate 1232 0)
     ∷ []
     ) (pos 1 ∷ pos 0 ∷ pos 1 ∷ pos 0 ∷ pos 1 ∷ [])
-    ∷ M 3 (refused (request ++ padding 3) ∷ []) (pos 4 ∷ [])
-    ∷ M 4 (refused (request ++ padding 5 ++ 7 ∷ 0 ∷ 0 ∷ 0 ∷ []) ∷ []) (pos 0 ∷ [])
-    ∷ M 5 (filtered (replicate 15 0) 0) (pos 0x01 ∷ pos 1 ∷ [])
-    ∷ M 6 (filtered (replicate 15 0xFF) 511) (pos 0x80 ∷ pos 1 ∷ [])
-    ∷ M 7 (filtered (0x00 ∷ 0x10 ∷ 0x02 ∷ replicate 12 0) 0) (pos 0x07 ∷ pos 3 ∷ [])
-    ∷ M 8 (measured 0xFFFFFFFF00000000 0x80000000 0x80000000 0x100000000) (pos 2147483648 ∷ pos 8589934592 ∷ [])
-    ∷ M 9 (measured 10 10 10 11) (negℤ (pos 1) ∷ pos 1 ∷ [])
-    ∷ M 10 (measured 1 (2 ^ 63 + 1) (2 ^ 63 + 1) 1) (negℤ (pos (2 ^ 63)) ∷ pos 0 ∷ [])
-    ∷ M 11 (measured 1 (2 ^ 63) (2 ^ 63) 1) (pos (2 ^ 63 - 1) ∷ pos 0 ∷ [])
+    ∷ M 3 (refusalOf (request ++ padding 3) ∷ []) (pos 4 ∷ [])
+    ∷ M 4 (refusalOf (request ++ padding 5 ++ 7 ∷ 0 ∷ 0 ∷ 0 ∷ []) ∷ []) (pos 0 ∷ [])
+    ∷ M 5 (filtered w (replicate 15 0) 0) (pos 0x01 ∷ pos 1 ∷ [])
+    ∷ M 6 (filtered w (replicate 15 0xFF) 511) (pos 0x80 ∷ pos 1 ∷ [])
+    ∷ M 7 (filtered w (0x00 ∷ 0x10 ∷ 0x02 ∷ replicate 12 0) 0) (pos 0x07 ∷ pos 3 ∷ [])
+    ∷ M 8 (measured m 0xFFFFFFFF00000000 0x80000000 0x80000000 0x100000000) (pos 2147483648 ∷ pos 8589934592 ∷ [])
+    ∷ M 9 (measured m 10 10 10 11) (negℤ (pos 1) ∷ pos 1 ∷ [])
+    ∷ M 10 (measured m 1 (2 ^ 63 + 1) (2 ^ 63 + 1) 1) (negℤ (pos (2 ^ 63)) ∷ pos 0 ∷ [])
+    ∷ M 11 (measured m 1 (2 ^ 63) (2 ^ 63) 1) (pos (2 ^ 63 - 1) ∷ pos 0 ∷ [])
     ∷ M 12 (good 508 4 ∷ good 508 8 ∷ []) (pos 1 ∷ pos 0 ∷ [])
     ∷ []
 
@@ -101,6 +113,21 @@ allSame [] (y ∷ ys) = false
 allSame (x ∷ xs) [] = false
 allSame (x ∷ xs) (y ∷ ys) = same x y && allSame xs ys
 
-unfoldable pub agree : List Row → Bool
-agree [] = true
-agree (r ∷ rs) = allSame (r .gives) (r .says) && agree rs
+-- how many values the page says in each of its cases M1 to M12
+abbrev pub valuesSaid : List ℕ
+valuesSaid = 3 ∷ 5 ∷ 1 ∷ 1 ∷ 2 ∷ 2 ∷ 2 ∷ 2 ∷ 2 ∷ 2 ∷ 2 ∷ 2 ∷ []
+
+-- the rows are the cases from n on, none missing and none out of order, each with as many values, and in each the definitions give what
+-- the page says
+unfoldable pub agree : ℕ → List ℕ → List Row → Bool
+agree n [] [] = true
+agree n [] (r ∷ rs) = false
+agree n (k ∷ ks) [] = false
+agree n (k ∷ ks) (r ∷ rs) = eqb (r .case) n && eqb (length (r .says)) k && allSame (r .gives) (r .says) && agree (suc n) ks rs
+
+-- the claim, of any measurement and weight, and of ours
+abbrev pub WorkedFor : Measurement → WeightFunction → Type 0
+WorkedFor m w = agree 1 valuesSaid (tableFor m w) ≡ true
+
+abbrev pub Worked : Type 0
+Worked = WorkedFor ourMeasurement weight

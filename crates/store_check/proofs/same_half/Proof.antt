@@ -48,7 +48,7 @@ shared-slice-read-result-8 : tie.Need-shared-slice-read-result-8
 shared-slice-read-result-8 c = search needs
 
 returns : tie.Need-returns
-returns c = sym (same-four _ _ _ (λ i. c .shared-slice-known8 .given i .fits))
+returns c = sym (same-four _ _ _ _ (λ i. c .shared-slice-known8 .given i .fits) (λ i. c .shared-slice-known8 .given i .fits))
 
 pub same-half-spec : {M : Type 1} → statement M
 same-half-spec =

@@ -1,6 +1,9 @@
 -- `zero_half` meets its contract: four octets decide. Assumes nothing.
 use mathlib.Core.Path.{sym}
-use Rattle.store_rules.proofs.Sames.{zero-four}
+use mathlib.Core.List.{[]}
+use Rattle.octets.specs.Number.{num}
+use Rattle.octets.proofs.Written.{no-octets}
+use Rattle.store_rules.proofs.Sames.{same-four}
 use borrow.Author.Needs.{needs}
 use Rattle.store_check.proofs.zero_half.Statement.{statement}
 use Rattle.store_check.proofs.zero_half.Tie as tie
@@ -27,7 +30,10 @@ shared-slice-read-result-4 : tie.Need-shared-slice-read-result-4
 shared-slice-read-result-4 c = search needs
 
 returns : tie.Need-returns
-returns c = sym (zero-four _ _ (λ i. c .shared-slice-known4 .given i .fits))
+unfolding num
+returns c =
+    let a = c .before .before .before .before .args in
+    sym (same-four (a .store .now) [] (a .at) 0 (λ i. c .shared-slice-known4 .given i .fits) no-octets)
 
 pub zero-half-spec : {M : Type 1} → statement M
 zero-half-spec =

@@ -2,7 +2,7 @@
 use mathlib.Core.Path.{sym, _∙_}
 use native.Mathlib.Omega.{arith}
 use Rattle.octets.specs.Number.{Octets}
-use Rattle.responder.proofs.Keeping.{time-wanted, keep-none, keep-done}
+use Rattle.responder.proofs.Keeping.{time-wanted, keep-none, keep-joined}
 use borrow.Author.Needs.{needs}
 use Rattle.responder.proofs.saved.keep.Statement.{statement}
 use Rattle.responder.proofs.saved.keep.Tie as tie
@@ -32,7 +32,7 @@ returns c =
     let known = at-then .before .before in
     let start = known .before in
     let b : Octets (start .args .store .now) = λ i. omega (arith, known .slice-known .given i) in
-    keep-done (start .args .store .now) b (start .pre .0) (start .args .asked) (start .args .fresh-cookie .0) (start .args .time) (start .pre .1)
+    keep-joined (start .args .store .now) b (start .pre .0) (start .args .asked) (start .args .fresh-cookie .0) (start .args .time) (start .pre .1)
     (sym (at-then .before .wants-interleaved .ensures) ∙ at-then .if1 .taken) (at-leave .leave .ensures) (at-join .join .ensures)
 
 returns-2 : tie.Need-returns-2

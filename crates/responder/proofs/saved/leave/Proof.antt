@@ -3,7 +3,7 @@ use mathlib.Core.Path.{ap, _∙_}
 use native.Mathlib.Omega.{arith}
 use Rattle.octets.specs.Number.{Octets}
 use Rattle.store_rules.specs.Place.{removed}
-use Rattle.responder.proofs.Keeping.{leave-none, leave-done}
+use Rattle.responder.proofs.Keeping.{leave-none, leave-record}
 use borrow.Author.Needs.{needs}
 use Rattle.responder.proofs.saved.leave.Statement.{statement}
 use Rattle.responder.proofs.saved.leave.Tie as tie
@@ -32,7 +32,7 @@ returns-2 c =
     let known = at-else .before in
     let start = known .before in
     let b : Octets (start .args .store .now) = λ i. omega (arith, known .slice-known .given i) in
-    leave-done (start .args .store .now) b (start .pre .0) (start .args .cookie .0) (start .args .time) (start .pre .1) (at-else .if1 .left)
+    leave-record (start .args .store .now) b (start .pre .0) (start .args .cookie .0) (start .args .time) (start .pre .1) (at-else .if1 .left)
     (at-remove .remove .ensures ∙ ap (removed (start .args .store .now)) (at-find .find .ensures))
 
 pub leave-spec : {M : Type 1} → statement M

@@ -1,4 +1,4 @@
--- What an answer on a store whose row is known is seen as: interleaved just where it sends the time saved for its request's cookie.
+-- What an answer on a store whose row is known is observed as: interleaved just where it sends the time saved for its request's cookie.
 -- Assumes nothing.
 use mathlib.Core.Path.{_≡_, refl, sym, ap, _∙_}
 use mathlib.Core.Bool.{Bool, true, false, cond, not, true≢false, false≢true}
@@ -19,7 +19,7 @@ use Rattle.responder_rules.specs.Claim.{InRange}
 use Rattle.responder_rules.specs.Once.{askedCookie, interleaved}
 use Rattle.responder_rules.proofs.Answers.{answer-header-more}
 use Rattle.responder_rules.proofs.Accepting.{answer-accepted, answer-refused}
-use Rattle.responder_rules.proofs.Leaving.{range-row, Saved, is-saved, answer-done, answer-stores, fresh-new}
+use Rattle.responder_rules.proofs.Leaving.{range-row, Saved, is-saved, answer-result, answer-stores, fresh-new}
 
 -- flag 0x2 is as it was put
 flag-put : (basic : Bool) (flags : ℕ) → interleavedFlag (flags - flags / 2 % 2 * 2 + cond basic 0 2) ≡ not basic
@@ -27,8 +27,8 @@ flag-put true flags = ne-eqb ((flags - flags / 2 % 2 * 2 + 0) / 2 % 2) 1 (λ e. 
 flag-put false flags = eq-eqb ((flags - flags / 2 % 2 * 2 + 2) / 2 % 2) 1 (omega arith)
 
 -- the cookie whose record leaves is not in the row that a fresh one has joined
-gone-joined : (n freshCookie c : ℕ) (row : List Record) → SoundRow row → held c row ≡ true → held freshCookie row ≡ false → held c (joined n freshCookie (without c row)) ≡ false
-gone-joined n freshCookie c row g h k = go (held c (joined n freshCookie (without c row))) refl
+left-joined : (n freshCookie c : ℕ) (row : List Record) → SoundRow row → held c row ≡ true → held freshCookie row ≡ false → held c (joined n freshCookie (without c row)) ≡ false
+left-joined n freshCookie c row g h k = go (held c (joined n freshCookie (without c row))) refl
   where
     either : (held c (without c row) ≡ true) ⊎ (c ≡ freshCookie) → ⊥
     either (inl e) = true≢false (sym e ∙ without-gone c row g)
@@ -45,37 +45,37 @@ module _ {s : List ℕ} {n : ℕ} {row : List Record} (w : Stores s n row) (g : 
   abbrev basic : Bool
   basic = eqb (savedTime (asking g) row) 0
 
-  -- a refused answer is not seen as interleaved
-  pub refused-sight : (answerRefusal g s out ≡ 0 → ⊥) → interleaved (got .refusal) (got .out) ≡ false
-  refused-sight h = rw (answer-refused g s out h, ne-eqb (answerRefusal g s out) 0 h)
+  -- a refused answer is not observed as interleaved
+  pub refused-observed : (answerRefusal g s out ≡ 0 → ⊥) → interleaved (got .refusal) (got .out) ≡ false
+  refused-observed h = rw (answer-refused g s out h, ne-eqb (answerRefusal g s out) 0 h)
 
   module _ (e : answerRefusal g s out ≡ 0) where
     -- the header that stands in the output is the one that went in
-    pub header-done : headerOf (got .out) ≡ sentHeader g row
-    header-done =
-        ap (λ (o : Outcome). headerOf (o .out)) (answer-done w g out e)
+    pub output-header : headerOf (got .out) ≡ sentHeader g row
+    output-header =
+        ap (λ (o : Outcome). headerOf (o .out)) (answer-result w g out e)
         ∙ answer-header-more g row (answer-accepted g s out e) (range-row g row (w .sound) r) _
 
-    -- an answer that is not refused is seen as interleaved where a time is saved
-    pub done-sight : interleaved (got .refusal) (got .out) ≡ not basic
-    done-sight = rw (header-done, ap (λ (o : Outcome). o .refusal) (answer-done w g out e)) (flag-put basic (g .server .flags))
+    -- an answer that is not refused is observed as interleaved where a time is saved
+    pub accepted-observed : interleaved (got .refusal) (got .out) ≡ not basic
+    accepted-observed = rw (output-header, ap (λ (o : Outcome). o .refusal) (answer-result w g out e)) (flag-put basic (g .server .flags))
 
-  -- so one that is seen as interleaved was not refused, and sent a saved time
-  pub sight-saved : interleaved (got .refusal) (got .out) ≡ true → (answerRefusal g s out ≡ 0) × Saved g row
-  sight-saved h = go (eqb (answerRefusal g s out) 0) refl
+  -- so one that is observed as interleaved was not refused, and sent a saved time
+  pub interleaved-saved : interleaved (got .refusal) (got .out) ≡ true → (answerRefusal g s out ≡ 0) × Saved g row
+  interleaved-saved h = go (eqb (answerRefusal g s out) 0) refl
     where
       time : (b : Bool) → basic ≡ b → not b ≡ true → Saved g row
       time true q k = absurd (false≢true k)
       time false q k = is-saved g row q
 
       go : (b : Bool) → eqb (answerRefusal g s out) 0 ≡ b → (answerRefusal g s out ≡ 0) × Saved g row
-      go true q = let e = eqb-true _ 0 q in (e, time basic refl (sym (done-sight e) ∙ h))
-      go false q = absurd (false≢true (sym (refused-sight (eqb-false _ 0 q)) ∙ h))
+      go true q = let e = eqb-true _ 0 q in (e, time basic refl (sym (accepted-observed e) ∙ h))
+      go false q = absurd (false≢true (sym (refused-observed (eqb-false _ 0 q)) ∙ h))
 
   -- and its request's cookie has left the store
-  pub sight-gone : interleaved (got .refusal) (got .out) ≡ true → held (askedCookie g) (rowOf (got .store)) ≡ false
-  sight-gone h =
-      let p = sight-saved h in
+  pub interleaved-left : interleaved (got .refusal) (got .out) ≡ true → held (askedCookie g) (rowOf (got .store)) ≡ false
+  interleaved-left h =
+      let p = interleaved-saved h in
       let c = askedCookie g in
-      let left = ap (λ (o : Outcome). rowOf (o .store)) (answer-done w g out (p .0)) ∙ stores-row (answer-stores w g out (r .freshCookie) (p .0)) ∙ p .1 .row-after n in
-      ap (held c) left ∙ gone-joined n (g .freshCookie) c row (w .sound) (time-held c row (p .1 .some)) (fresh-new w g out (p .0) (p .1 .wanted) .1)
+      let left = ap (λ (o : Outcome). rowOf (o .store)) (answer-result w g out (p .0)) ∙ stores-row (answer-stores w g out (r .freshCookie) (p .0)) ∙ p .1 .row-after n in
+      ap (held c) left ∙ left-joined n (g .freshCookie) c row (w .sound) (time-held c row (p .1 .some)) (fresh-new w g out (p .0) (p .1 .wanted) .1)

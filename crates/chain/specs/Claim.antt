@@ -1,0 +1,34 @@
+-- The laws of the field chain, for any octets.
+use mathlib.Core.Path.{_≡_}
+use mathlib.Core.List.{List, _++_}
+use mathlib.Core.Logic.{_↔_}
+use Prim.Native.Nat.{ℕ, _+_, _≤_}
+use lib.ListN.{length, drop}
+use Rattle.header.specs.Claim.{Passes}
+use Rattle.chain.specs.Chain.{padded, stepAt, chainRefusal, soundRefusal, Chain}
+use Rattle.chain.specs.Field.{fieldsFrom, AllInside}
+use Rattle.chain.specs.Content.{Content, chainOctets, contentsOf, AllFit}
+use Rattle.chain.specs.declared.cursor.Cursor.{Cursor}
+use Rattle.chain.specs.declared.cursor.Field.{Field}
+use Rattle.chain.specs.declared.cursor.Step.the-variants.{Found}
+
+-- a step that finds a field hands back the place right after the field's data and padding, and within the octets
+abbrev pub PlaceReached : Type 0
+PlaceReached = (s : List ℕ) (at : ℕ) (f : Field) (c : Cursor) → stepAt s at ≡ Found f c → (c .at ≡ at + 4 + padded (f .size)) × (c .at ≤ length s)
+
+-- the data of each field lies in the octets
+abbrev pub FieldsInside : Type 0
+FieldsInside = (s : List ℕ) (at : ℕ) → AllInside s (fieldsFrom s at)
+
+-- the check accepts exactly the chains: empty, or one sound field followed by a chain
+abbrev pub ChainsAccepted : Type 0
+ChainsAccepted = (s : List ℕ) → chainRefusal s ≡ 0 ↔ Chain s
+
+-- a datagram is sound exactly when its header passes and what follows the header is a chain
+abbrev pub SoundDatagrams : Type 0
+SoundDatagrams = (s : List ℕ) (wanted : ℕ) → soundRefusal s wanted ≡ 0 ↔ (Passes s wanted × Chain (drop 48 s))
+
+-- fields that were written after p are read there, each with its type and its data
+abbrev pub ContentsBack : Type 0
+ContentsBack = (p : List ℕ) (cs : List Content) (at : ℕ) → length p ≡ at → AllFit cs
+    → contentsOf (p ++ chainOctets cs) (fieldsFrom (p ++ chainOctets cs) at) ≡ cs

@@ -1,0 +1,12 @@
+-- Document 01, "Filter": weight is the number of bits set.
+use mathlib.Core.Path.{_≡_}
+use mathlib.Core.List.{List}
+use Prim.Native.Nat.{ℕ}
+use lib.Count.{ones}
+use Rattle.octets.specs.Number.{Octets}
+use Rattle.filter.specs.Filter.{weight}
+use Rattle.filter_weight.specs.Weighing.{lowFirst}
+
+-- the positions that are set are as many as the ones of the number that the filter's octets spell
+abbrev pub BitsSet : Type 0
+BitsSet = (f : List ℕ) → Octets f → weight f ≡ ones (lowFirst f 0 512)

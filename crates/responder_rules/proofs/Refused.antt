@@ -1,0 +1,66 @@
+-- A refused call changes nothing, and its number is one that concerns the call. Assumes nothing.
+use mathlib.Core.Path.{_≡_, refl, _∙_, subst⁻¹}
+use mathlib.Core.Bool.{Bool, true, false, cond, not, _||_}
+use mathlib.Core.List.{List, [], _∷_}
+use Prim.Native.Nat.{ℕ}
+use lib.Dec.{eqb, ltb}
+use lib.ListN.{length}
+use Rattle.header.specs.Header.{refusal}
+use Rattle.chain.specs.Chain.{soundRefusal}
+use Rattle.octets.specs.Among.{among}
+use Rattle.octets.proofs.Among.{among-all, among-not-zero}
+use Rattle.chain.proofs.Refusals.{sound-low}
+use Rattle.store_rules.specs.Row.{held, timeOf, rowOf, wrongSize, wrongStore, cleared, reportRefusal}
+use Rattle.responder_rules.specs.Answer.{Given, asking, wrongArguments, wrongFresh, answerRefusal}
+use Rattle.responder_rules.specs.Call.{clear, report, answer, stepStore}
+use Rattle.responder_rules.specs.Refused.{refusalsOf, RefusedCall, Refusals}
+use Rattle.responder_rules.proofs.Accepting.{answer-refused, answer-number}
+use Rattle.responder_rules.proofs.Reported.{report-refused, report-number}
+
+-- ---- the numbers
+
+-- a refusal that is one of some numbers
+abbrev OneOf : List ℕ → ℕ → Type 0
+OneOf ms n = (n ≡ 0 → ⊥) → among n ms ≡ true
+
+-- a test that gives a number of them, before others
+test-given : (ms : List ℕ) (b : Bool) (m n : ℕ) → OneOf ms m → OneOf ms n → OneOf ms (cond b m n)
+test-given ms true m n p q = p
+test-given ms false m n p q = q
+
+none : (ms : List ℕ) → OneOf ms 0
+none ms z = absurd (z refl)
+
+answer-one : (g : Given) (store out : List ℕ) → OneOf (refusalsOf (answer g out)) (answerRefusal g store out)
+unfolding answerRefusal
+answer-one g store out =
+    let ms = refusalsOf (answer g out) in
+    let r = soundRefusal (g .request) 3 in
+    test-given ms (wrongStore store || wrongArguments (g .filter) (g .information) (g .server .leap) (g .receive) (g .estimate)) 6 _ (λ z. refl)
+    (test-given ms (not (eqb r 0)) r _ (λ z. among-not-zero r ms z (among-all r (0 ∷ 1 ∷ 2 ∷ 3 ∷ 4 ∷ 5 ∷ []) (0 ∷ ms) refl (sound-low (g .request) 3)))
+    (test-given ms (wrongFresh (asking g) (g .freshCookie) (rowOf store)) 8 _ (λ z. refl)
+    (test-given ms (ltb (length out) (length (g .request))) 11 0 (λ z. refl) (none ms))))
+
+report-one : (s : List ℕ) (c t : ℕ) → OneOf (refusalsOf (report c t)) (reportRefusal s c t)
+report-one s c t =
+    let ms = refusalsOf (report c t) in
+    test-given ms (wrongStore s || eqb t 0) 6 _ (λ z. refl)
+    (test-given ms (not (held c (rowOf s)) || not (eqb (timeOf c (rowOf s)) 0)) 12 0 (λ z. refl) (none ms))
+
+-- ---- the calls
+
+pub refusals : Refusals
+unfolding cleared
+refusals clear s = go (wrongSize s) refl
+  where
+    go : (b : Bool) → wrongSize s ≡ b → (stepStore clear s .refusal ≡ 0 → ⊥) → RefusedCall clear s (stepStore clear s)
+    go true e z = record { store = rw e; out = refl; size = refl; number = rw e }
+    go false e z = absurd (z (rw e))
+refusals (report c t) s = λ z.
+    let h : reportRefusal s c t ≡ 0 → ⊥ = λ e. z (report-number s c t ∙ e) in
+    let e = report-refused s c t h in
+    record { store = rw e; out = refl; size = refl; number = rw (report-number s c t) (report-one s c t h) }
+refusals (answer g out) s = λ z.
+    let h : answerRefusal g s out ≡ 0 → ⊥ = λ e. z (answer-number g s out ∙ e) in
+    subst⁻¹ (RefusedCall (answer g out) s) (answer-refused g s out h)
+    (record { store = refl; out = refl; size = refl; number = answer-one g s out h })

@@ -1,0 +1,2 @@
+-- A refusal changes nothing. Assumes nothing.
+pub mod Refusals

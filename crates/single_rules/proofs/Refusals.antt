@@ -1,0 +1,76 @@
+-- A refusal of a call on one datagram or one filter changes nothing, by the cases of each definition. Assumes nothing.
+use mathlib.Core.Path.{_≡_, refl}
+use mathlib.Core.Bool.{Bool, true, false, cond, not, _&&_, _||_}
+use mathlib.Core.List.{List}
+use Prim.Native.Nat.{ℕ}
+use lib.Dec.{eqb, ltb}
+use lib.ListN.{length, drop}
+use Rattle.header.specs.Header.{wrongLength, versionOf, modeOf, headerOf, refusal, reading, written}
+use Rattle.chain.specs.Chain.{stepRefusal, walk, chainRefusal, soundRefusal}
+use Rattle.chain.specs.declared.cursor.Step.{Step}
+use Rattle.chain.specs.declared.cursor.Step.the-variants.{Found, WrongLength, WrongPadding, End}
+use Rattle.filter.specs.Calls.{isFilter, isId}
+use Rattle.filter_weight.specs.Weighing.{numbers}
+use Rattle.filter_weight.specs.declared.Weighing.{Weighing}
+use Rattle.single_rules.specs.Single.{Call, headerRead, headerWrite, sound, filterAdd, filterUnion, filterWeight, lent, Answer, plainAnswer, readAnswer, outputAnswer, weightAnswer}
+use Rattle.single_rules.specs.Refusals.{concerning, isOneOf, Refusal, Refusals}
+
+-- what holds of both choices holds of the one that is taken
+either : {A : Type 0} (P : A → Type 0) (b : Bool) {x y : A} → P x → P y → P (cond b x y)
+either P true p q = p
+either P false p q = q
+
+module _ (P : ℕ → Type 0) (none : P 0) where
+  -- refusals 1, 2 and 3
+  header-number : P 1 → P 2 → P 3 → (s : List ℕ) (wanted : ℕ) → P (refusal s wanted)
+  unfolding refusal
+  header-number one two three s wanted =
+      either P (wrongLength s) one (either P (not (eqb (versionOf s) 5)) two (either P (not (eqb (modeOf s) wanted)) three none))
+
+  -- refusals 4 and 5
+  chain-number : P 4 → P 5 → (s : List ℕ) → P (chainRefusal s)
+  unfolding chainRefusal
+  chain-number four five s = go (walk s 0 .stop)
+    where
+      go : (t : Step) → P (stepRefusal t)
+      go (Found f n) = none
+      go WrongLength = four
+      go WrongPadding = five
+      go End = none
+
+-- an answer that, where it is a refusal, is as the claim says
+abbrev IfRefused : Call → Answer → Type 0
+IfRefused c w = (w .refusal ≡ 0 → ⊥) → Refusal c w
+
+accepted : (c : Call) (w : Answer) → w .refusal ≡ 0 → IfRefused c w
+accepted c w e f = absurd (f e)
+
+refused : (c : Call) (n : ℕ) → isOneOf n (concerning c) ≡ true → IfRefused c (plainAnswer n (lent c))
+refused c n e f = record { unchanged = refl; number = e }
+
+pub refusals : Refusals
+unfolding written soundRefusal
+refusals (headerRead s wanted) =
+    let c = headerRead s wanted in
+    header-number (λ n. IfRefused c (readAnswer (reading n (headerOf s)))) (accepted c _ refl) (refused c 1 refl) (refused c 2 refl) (refused c 3 refl) s wanted
+refusals (headerWrite h out) =
+    let c = headerWrite h out in
+    let P : ℕ × List ℕ → Type 0 = λ w. IfRefused c (outputAnswer w) in
+    either P (ltb 3 (h .leap) || not (eqb (h .mode) 3 || eqb (h .mode) 4)) (refused c 6 refl)
+    (either P (ltb (length out) 48) (refused c 11 refl) (accepted c _ refl))
+refusals (sound s wanted) =
+    let c = sound s wanted in
+    let P : ℕ → Type 0 = λ n. IfRefused c (plainAnswer n (lent c)) in
+    let none = accepted c (plainAnswer 0 (lent c)) refl in
+    either P (eqb (refusal s wanted) 0)
+    (chain-number P none (refused c 4 refl) (refused c 5 refl) (drop 48 s))
+    (header-number P none (refused c 1 refl) (refused c 2 refl) (refused c 3 refl) s wanted)
+refusals (filterAdd filter id) =
+    let c = filterAdd filter id in
+    either (λ (w : ℕ × List ℕ). IfRefused c (outputAnswer w)) (isFilter filter && isId id) (accepted c _ refl) (refused c 6 refl)
+refusals (filterUnion into other) =
+    let c = filterUnion into other in
+    either (λ (w : ℕ × List ℕ). IfRefused c (outputAnswer w)) (isFilter into && isFilter other) (accepted c _ refl) (refused c 6 refl)
+refusals (filterWeight filter) =
+    let c = filterWeight filter in
+    either (λ (w : Weighing). IfRefused c (weightAnswer (numbers w))) (isFilter filter) (accepted c _ refl) (refused c 6 refl)

@@ -1,0 +1,47 @@
+-- Document 01's idle programs of measurement and weight, and that they are rejected: the claim that the page names for each is false of it.
+use mathlib.Core.Path.{_≡_}
+use mathlib.Core.List.{List}
+use Prim.Native.Nat.{ℕ, _+_}
+use lib.IntN.{ℤ}
+use lib.ListN.{length}
+use Rattle.filter.specs.Filter.{weight}
+use Rattle.worked.specs.Cases.{Measurement, WeightFunction, WorkedFor}
+
+-- ONE FIXED ANSWER
+
+abbrev pub fixedAnswer : ℤ → ℕ → Measurement
+fixedAnswer x n t1 t2 t3 t4 = (x, n)
+
+-- a measurement with one offset, whatever its delay, and one with one delay, whatever its offset
+abbrev pub OneOffset : ℤ → Measurement → Type 0
+OneOffset x m = (t1 t2 t3 t4 : ℕ) → m t1 t2 t3 t4 .0 ≡ x
+
+abbrev pub OneDelay : ℕ → Measurement → Type 0
+OneDelay n m = (t1 t2 t3 t4 : ℕ) → m t1 t2 t3 t4 .1 ≡ n
+
+-- AN INVENTED WEIGHT
+
+abbrev pub fixedWeight : ℕ → WeightFunction
+fixedWeight n f = n
+
+-- one more than the positions that are set
+abbrev pub oneMore : WeightFunction
+oneMore f = weight f + 1
+
+-- weight's definition: of every filter, the number of positions that are set
+abbrev pub WeightFor : WeightFunction → Type 0
+WeightFor w = (f : List ℕ) → length f ≡ 512 → w f ≡ weight f
+
+-- THE CLAIM
+
+pub record IdleRejected : Type 0 where
+  -- M8 against M9, whatever the weight
+  pub fixed-answer : (x : ℤ) (n : ℕ) (w : WeightFunction) → WorkedFor (fixedAnswer x n) w → ⊥
+  pub one-offset : (x : ℤ) (m : Measurement) (w : WeightFunction) → OneOffset x m → WorkedFor m w → ⊥
+  pub one-delay : (n : ℕ) (m : Measurement) (w : WeightFunction) → OneDelay n m → WorkedFor m w → ⊥
+  -- weight's definition
+  pub fixed-weight : (n : ℕ) → WeightFor (fixedWeight n) → ⊥
+  pub one-more : WeightFor oneMore → ⊥
+  -- and the cases, whatever the measurement: M5 against M7, and M5
+  pub fixed-weight-worked : (n : ℕ) (m : Measurement) → WorkedFor m (fixedWeight n) → ⊥
+  pub one-more-worked : (m : Measurement) → WorkedFor m oneMore → ⊥
