@@ -13,7 +13,7 @@ use Rattle.header.specs.declared.Reading.the-variants.{Fields, Refused}
 use Rattle.store_rules.specs.Row.{Record, held, reported, without, joined, unused, usedOf}
 use Rattle.records.specs.Records.{unusedRecord, Fit, wrongCount, wrongRecords, clearRecords, reportRefusal, reportRecords, leaveRecords, withCookieAtFree, joinRecords}
 use Rattle.responder_rules.specs.Answer.{Given, wantsInterleaved, savedTime, wrongFresh, rowAfter}
-use Rattle.records_answer.specs.Step.{Stepped, padded, refuse, answerStep}
+use Rattle.records_answer.specs.Step.{Stepped, rowInRecords, refuse, answerStep}
 use Rattle.records_answer.specs.Answer.{Outcome, checkedRequest, shortOutput, stepOf, answerRecords}
 use Rattle.records_answer.specs.Same.{Call, clear, wrong, find, time, report, leave, join, answer, onRecords, Typed}
 
@@ -126,7 +126,7 @@ fit-answer (Fields asked) short freshCookie rs h f = go (wrongRecords rs) (wrong
     row : List Record
     row = rowAfter asked freshCookie (length rs) (usedOf rs)
 
-    go : (six eight eleven : Bool) → Fit (cond six (refuse 6 rs) (cond eight (refuse 8 rs) (cond eleven (refuse 11 rs) (record { refusal = 0; saved = savedTime asked (usedOf rs); records = padded (length rs) row }))) .records)
+    go : (six eight eleven : Bool) → Fit (cond six (refuse 6 rs) (cond eight (refuse 8 rs) (cond eleven (refuse 11 rs) (record { refusal = 0; saved = savedTime asked (usedOf rs); records = rowInRecords (length rs) row }))) .records)
     go true c d = f
     go false true d = f
     go false false true = f

@@ -19,10 +19,10 @@ use Rattle.records.specs.Records.{unusedRecord, wrongCount, wrongRecords, leave
 use Rattle.records.proofs.Moves.{leave-past}
 use Rattle.records.proofs.Sounds.{Sound, held-row, time-row, time-at, right-sound}
 use Rattle.responder_rules.specs.Answer.{wantsInterleaved, savedTime, rowAfter, wrongFresh}
-use Rattle.records_answer.specs.Step.{Stepped, padded, refuse, answerStep}
+use Rattle.records_answer.specs.Step.{Stepped, rowInRecords, refuse, answerStep}
 use Rattle.records_answer.specs.Value.{askedCookie, unchangedPlan, keepingPlan, planFor, planFrom, planOf}
 use Rattle.records_answer.specs.declared.value.Plan.{Plan}
-use Rattle.records_answer.proofs.Padded.{row-most, right-padded, leave-padded, join-padded}
+use Rattle.records_answer.proofs.RowInRecords.{row-most, right-row, leave-row, join-row}
 
 module _ (rs : List Record) (freshCookie : ServerCookie) where
   -- the records after a plan: they stay, or a record leaves and then the fresh cookie joins
@@ -72,27 +72,27 @@ module _ (rs : List Record) (freshCookie : ServerCookie) where
     time-found = time-row cookie rs w ∙ time-at cookie rs
 
     -- the record whose time is sent leaves
-    leaves : held cookie row ≡ true → leaveRecords rs (indexOf cookie rs) ≡ padded n (without cookie row)
-    leaves h = ap (λ (l : List Record). leaveRecords l (indexOf cookie l)) (right-padded rs w) ∙ leave-padded n cookie row h (row-most rs w)
+    leaves : held cookie row ≡ true → leaveRecords rs (indexOf cookie rs) ≡ rowInRecords n (without cookie row)
+    leaves h = ap (λ (l : List Record). leaveRecords l (indexOf cookie l)) (right-row rs w) ∙ leave-row n cookie row h (row-most rs w)
 
     -- then the fresh cookie joins
-    joins : (none : Bool) → eqb time 0 ≡ none → joinRecords (leaveRecords rs (cond none n (indexOf cookie rs))) f ≡ padded n (joined n f (cond none row (without cookie row)))
-    joins true e = ap (λ (l : List Record). joinRecords l f) (stays ∙ right-padded rs w) ∙ join-padded n f row (w .used) low (row-most rs w)
+    joins : (none : Bool) → eqb time 0 ≡ none → joinRecords (leaveRecords rs (cond none n (indexOf cookie rs))) f ≡ rowInRecords n (joined n f (cond none row (without cookie row)))
+    joins true e = ap (λ (l : List Record). joinRecords l f) (stays ∙ right-row rs w) ∙ join-row n f row (w .used) low (row-most rs w)
     joins false e =
         let h = time-held cookie row (λ q. eqb-false time 0 e (sym time-found ∙ q)) in
         let most : length (without cookie row) ≤ n = omega (arith, length-without cookie row, row-most rs w) in
-        ap (λ (l : List Record). joinRecords l f) (leaves h) ∙ join-padded n f (without cookie row) (without-absent cookie 0 row (w .used)) low most
+        ap (λ (l : List Record). joinRecords l f) (leaves h) ∙ join-row n f (without cookie row) (without-absent cookie 0 row (w .used)) low most
 
     abbrev done : Stepped
-    done = record { refusal = 0; saved = savedTime asked row; records = padded n (rowAfter asked f n row) }
+    done = record { refusal = 0; saved = savedTime asked row; records = rowInRecords n (rowAfter asked f n row) }
 
     keeps : stepBy (keepingPlan (wantsInterleaved asked) n (indexOf cookie rs) time) ≡ done
     keeps = go (wantsInterleaved asked)
       where
         go : (b : Bool) → stepBy (keepingPlan b n (indexOf cookie rs) time)
-            ≡ record { refusal = 0; saved = cond b (timeOf cookie row) 0; records = padded n (cond b (joined n f (cond (eqb (cond b (timeOf cookie row) 0) 0) row (without cookie row))) row) }
+            ≡ record { refusal = 0; saved = cond b (timeOf cookie row) 0; records = rowInRecords n (cond b (joined n f (cond (eqb (cond b (timeOf cookie row) 0) 0) row (without cookie row))) row) }
         go true = rw time-found (ap (λ (l : List Record). record { refusal = 0; saved = time; records = l }) (joins (eqb time 0) refl))
-        go false = ap (refuse 0) (right-padded rs w)
+        go false = ap (refuse 0) (right-row rs w)
 
     planned : (short : Bool) → stepBy (planFor asked short freshCookie n (indexOf f rs) (indexOf cookie rs) time) ≡ cond (wrongFresh asked f row) (refuse 8 rs) (cond short (refuse 11 rs) done)
     planned short = rw fresh-test (go (wrongFresh asked f row) short)
@@ -121,6 +121,6 @@ module _ (rs : List Record) (freshCookie : ServerCookie) where
       go : (six : Bool) → wrongRecords rs ≡ six
           → stepBy (cond six (unchangedPlan 6 (length rs)) (planFor asked short freshCookie (length rs) (indexOf (freshCookie .0) rs) (indexOf (asked .«server_cookie» .0) rs) (getD rs (indexOf (asked .«server_cookie» .0) rs) unusedRecord .time)))
           ≡ cond six (refuse 6 rs) (cond (wrongFresh asked (freshCookie .0) (usedOf rs)) (refuse 8 rs) (cond short (refuse 11 rs)
-          (record { refusal = 0; saved = savedTime asked (usedOf rs); records = padded (length rs) (rowAfter asked (freshCookie .0) (length rs) (usedOf rs)) })))
+          (record { refusal = 0; saved = savedTime asked (usedOf rs); records = rowInRecords (length rs) (rowAfter asked (freshCookie .0) (length rs) (usedOf rs)) })))
       go true e = refl
       go false e = planned e asked short

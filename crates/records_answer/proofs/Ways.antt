@@ -10,13 +10,13 @@ use Rattle.header.specs.Header.{reading}
 use Rattle.store_rules.specs.Row.{Record, usedOf}
 use Rattle.records.specs.Records.{wrongRecords}
 use Rattle.responder_rules.specs.Answer.{Given, asking, savedTime, rowAfter, wrongFresh, answerOctets}
-use Rattle.records_answer.specs.Step.{Stepped, padded, refuse, answerStep}
+use Rattle.records_answer.specs.Step.{Stepped, rowInRecords, refuse, answerStep}
 use Rattle.records_answer.specs.Answer.{firstRefusal, shortOutput, stepOf, answerRecords}
 
 module _ (g : Given) (rs : List Record) where
   -- a step that is not refused
   abbrev pub done : Stepped
-  done = record { refusal = 0; saved = savedTime (asking g) (usedOf rs); records = padded (length rs) (rowAfter (asking g) (g .freshCookie) (length rs) (usedOf rs)) }
+  done = record { refusal = 0; saved = savedTime (asking g) (usedOf rs); records = rowInRecords (length rs) (rowAfter (asking g) (g .freshCookie) (length rs) (usedOf rs)) }
 
   -- it goes on, or a refusal stops it. `first` is that of the arguments and the request
   pub data Way (first : ℕ) (short : Bool) (s : Stepped) : Type 0 where

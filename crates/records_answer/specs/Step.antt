@@ -10,8 +10,8 @@ use Rattle.records.specs.Records.{unusedRecord, wrongRecords}
 use Rattle.responder_rules.specs.Answer.{savedTime, rowAfter, wrongFresh}
 
 -- a row in n records: the used ones first
-abbrev pub padded : ℕ → List Record → List Record
-padded n row = row ++ replicate (n - length row) unusedRecord
+abbrev pub rowInRecords : ℕ → List Record → List Record
+rowInRecords n row = row ++ replicate (n - length row) unusedRecord
 
 -- the refusal, the saved time that is sent (0 in a basic answer and in a refusal), and the records after the step
 pub record Stepped : Type 0 where
@@ -34,5 +34,5 @@ answerStep (Fields asked) short freshCookie rs =
     (record {
       refusal = 0;
       saved = savedTime asked (usedOf rs);
-      records = padded (length rs) (rowAfter asked freshCookie (length rs) (usedOf rs));
+      records = rowInRecords (length rs) (rowAfter asked freshCookie (length rs) (usedOf rs));
     })))

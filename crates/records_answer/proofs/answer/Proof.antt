@@ -61,6 +61,7 @@ use Rattle.records_answer.specs.Answer.{checkedRequest, shortOutput, ste
 use Rattle.records_answer.specs.Sent.{Ready, sentBy}
 use Rattle.records_answer.specs.declared.Step.{Step}
 use Rattle.records_answer.proofs.Deciding.{ready, answered}
+use Rattle.records_answer.proofs.Values.{IsReading, IsServer, IsAnswered, IsStep, leap-fits}
 use Rattle.records_answer.proofs.Step as St
 use Rattle.records_answer.proofs.Step.Laws as St′
 use Rattle.records_answer.proofs.datagram.checked as checked
@@ -110,22 +111,6 @@ Machine = List Val × (List Val × (List Val × (List Val × (List Val × (List 
 
 abbrev slice-val : {X : Type 0} → RefT (List X) → Val
 slice-val x = sliceVal (x .ptr) (length (x .now))
-
--- values and their machine values
-abbrev IsReading : Reading → Type 0
-IsReading r = Is Rd.the-row r (Rd′.lowered r ∷ [])
-
-abbrev IsStep : Step → Type 0
-IsStep r = Is St.the-row r (St′.lowered r ∷ [])
-
-abbrev IsServer : Server → Type 0
-IsServer r = Is Sv.the-row r (Sv′.lowered r ∷ [])
-
-abbrev IsAnswered : Answered → Type 0
-IsAnswered r = Is An.the-row r (An′.lowered r ∷ [])
-
-leap-fits : (s : Server) → IsServer s → s .leap < 2 ^ 8
-leap-fits s g = LL.owed Sv.the-type Sv′.the-laws s (Sv′.lowered s ∷ []) g .0 .1
 
 module _ {M : Type 1} (𝓤 : URA M) (H : Heap 𝓤) (A : Atoms 𝓤) (mem : Memory → SProp 𝓤) (run : Routine → Fun 𝓤) where
   -- the contracts that the proof cites

@@ -13,7 +13,7 @@ use Rattle.store_rules.specs.Place.{indexOf}
 use Rattle.store_rules.proofs.Rows.{or-none, Parted, part-row, held-append, index-append}
 use Rattle.records.specs.Records.{unusedRecord, wrongRecords, leaveRecords, withCookieAtFree, joinRecords}
 use Rattle.records.proofs.Sounds.{unused-zero, Sound, right-sound}
-use Rattle.records_answer.specs.Step.{padded}
+use Rattle.records_answer.specs.Step.{rowInRecords}
 
 -- ---- records that are not wrong are so
 
@@ -29,8 +29,8 @@ all-unused (r ∷ rs) h =
 pub row-most : (rs : List Record) → Sound rs → length (usedOf rs) ≤ length rs
 row-most rs w = let l : length rs ≡ length (usedOf rs) + length (w .rest) = ap length (w .parts) ∙ length-append (usedOf rs) (w .rest) in omega arith
 
-pub right-padded : (rs : List Record) → Sound rs → rs ≡ padded (length rs) (usedOf rs)
-right-padded rs w =
+pub right-row : (rs : List Record) → Sound rs → rs ≡ rowInRecords (length rs) (usedOf rs)
+right-row rs w =
     let l : length rs ≡ length (usedOf rs) + length (w .rest) = ap length (w .parts) ∙ length-append (usedOf rs) (w .rest) in
     let k : length (w .rest) ≡ length rs - length (usedOf rs) = omega arith in
     w .parts ∙ ap (λ (l : List Record). usedOf rs ++ l) (all-unused (w .rest) (w .free) ∙ ap (λ (m : ℕ). replicate m unusedRecord) k)
@@ -50,24 +50,24 @@ module _ (n c : ℕ) (row : List Record) (h : held c row ≡ true) (most : lengt
   parted : Parted c row
   parted = part-row c row h
 
-  pub leave-padded : leaveRecords (padded n row) (indexOf c (padded n row)) ≡ padded n (without c row)
-  leave-padded =
+  pub leave-row : leaveRecords (rowInRecords n row) (indexOf c (rowInRecords n row)) ≡ rowInRecords n (without c row)
+  leave-row =
       let a = parted .before in
       let r = parted .found in
       let b = parted .after in
       let k = n - length row in
       let free = replicate k unusedRecord in
-      let index : indexOf c (padded n row) ≡ length a = index-append c row free h ∙ parted .index in
+      let index : indexOf c (rowInRecords n row) ≡ length a = index-append c row free h ∙ parted .index in
       let total : length row ≡ length a + suc (length b) = ap length (parted .whole) ∙ length-append a (r ∷ b) in
       let count : n - length (a ++ b) ≡ k + 1 = omega (arith, length-append a b) in
-      let whole : padded n row ≡ a ++ (r ∷ (b ++ free)) = ap (λ (l : List Record). l ++ free) (parted .whole) ∙ append-assoc a (r ∷ b) free in
-      ap (leaveRecords (padded n row)) index
+      let whole : rowInRecords n row ≡ a ++ (r ∷ (b ++ free)) = ap (λ (l : List Record). l ++ free) (parted .whole) ∙ append-assoc a (r ∷ b) free in
+      ap (leaveRecords (rowInRecords n row)) index
       ∙ ap (λ (l : List Record). leaveRecords l (length a)) whole
       ∙ leave-at a r (b ++ free) (length a) refl
       ∙ ap (λ (l : List Record). a ++ l) (append-assoc b free (unusedRecord ∷ []) ∙ ap (λ (l : List Record). b ++ l) (replicate-append-replicate k 1 unusedRecord))
       ∙ sym (append-assoc a b (replicate (k + 1) unusedRecord))
       ∙ ap (λ (m : ℕ). (a ++ b) ++ replicate m unusedRecord) (sym count)
-      ∙ ap (padded n) (sym (parted .removed))
+      ∙ ap (rowInRecords n) (sym (parted .removed))
 
 -- ---- a cookie joins
 
@@ -84,20 +84,20 @@ module _ (n c : ℕ) (row : List Record) (h : held 0 row ≡ false) where
   fresh = record { cookie = c; time = 0 } ∷ []
 
   -- there is room
-  join-room : length row + 1 ≤ n → joinRecords (padded n row) c ≡ padded n (row ++ fresh)
+  join-room : length row + 1 ≤ n → joinRecords (rowInRecords n row) c ≡ rowInRecords n (row ++ fresh)
   unfolding joinRecords held
   join-room l =
       let k = n - (length row + 1) in
       let e : n - length row ≡ suc k = omega arith in
-      let s : padded n row ≡ row ++ (unusedRecord ∷ replicate k unusedRecord) = ap (λ (m : ℕ). row ++ replicate m unusedRecord) e in
+      let s : rowInRecords n row ≡ row ++ (unusedRecord ∷ replicate k unusedRecord) = ap (λ (m : ℕ). row ++ replicate m unusedRecord) e in
       let t : held 0 (row ++ (unusedRecord ∷ replicate k unusedRecord)) ≡ true = held-append 0 row (unusedRecord ∷ replicate k unusedRecord) ∙ rw h in
       rw (s, t) (free-after c row (replicate k unusedRecord) h)
       ∙ sym (append-assoc row fresh (replicate k unusedRecord))
       ∙ ap (λ (m : ℕ). (row ++ fresh) ++ replicate (n - m) unusedRecord) (sym (length-append row fresh))
 
 -- a full row is its records
-padded-full : (n : ℕ) (row : List Record) → n ≤ length row → padded n row ≡ row
-padded-full n row h = let z : n - length row ≡ 0 = omega arith in rw z (append-nil row)
+full-row : (n : ℕ) (row : List Record) → n ≤ length row → rowInRecords n row ≡ row
+full-row n row h = let z : n - length row ≡ 0 = omega arith in rw z (append-nil row)
 
 held-later : (r : Record) (row : List Record) → held 0 (r ∷ row) ≡ false → held 0 row ≡ false
 unfolding held
@@ -108,17 +108,17 @@ join-first : (c : ℕ) (r : Record) (row : List Record) → held 0 (r ∷ row) �
 unfolding joinRecords leaveRecords
 join-first c r row h = rw h (free-after c row [] (held-later r row h))
 
-join-none : (n c : ℕ) (row : List Record) → held 0 row ≡ false → 1 ≤ n → length row ≡ n → joinRecords (padded n row) c ≡ padded n (drop 1 row ++ (record { cookie = c; time = 0 } ∷ []))
+join-none : (n c : ℕ) (row : List Record) → held 0 row ≡ false → 1 ≤ n → length row ≡ n → joinRecords (rowInRecords n row) c ≡ rowInRecords n (drop 1 row ++ (record { cookie = c; time = 0 } ∷ []))
 join-none n c [] h low e = absurd (omega (arith, low, e))
 join-none n c (r ∷ row) h low e =
     let x : List Record = record { cookie = c; time = 0 } ∷ [] in
-    ap (λ (l : List Record). joinRecords l c) (padded-full n (r ∷ row) (omega (arith, e)))
+    ap (λ (l : List Record). joinRecords l c) (full-row n (r ∷ row) (omega (arith, e)))
     ∙ join-first c r row h
-    ∙ sym (padded-full n (row ++ x) (omega (arith, e, length-append row x)))
+    ∙ sym (full-row n (row ++ x) (omega (arith, e, length-append row x)))
 
-pub join-padded : (n c : ℕ) (row : List Record) → held 0 row ≡ false → 1 ≤ n → length row ≤ n → joinRecords (padded n row) c ≡ padded n (joined n c row)
-join-padded n c row h low most = go (ltb (length row) n) refl
+pub join-row : (n c : ℕ) (row : List Record) → held 0 row ≡ false → 1 ≤ n → length row ≤ n → joinRecords (rowInRecords n row) c ≡ rowInRecords n (joined n c row)
+join-row n c row h low most = go (ltb (length row) n) refl
   where
-    go : (b : Bool) → ltb (length row) n ≡ b → joinRecords (padded n row) c ≡ padded n (cond b row (drop 1 row) ++ (record { cookie = c; time = 0 } ∷ []))
+    go : (b : Bool) → ltb (length row) n ≡ b → joinRecords (rowInRecords n row) c ≡ rowInRecords n (cond b row (drop 1 row) ++ (record { cookie = c; time = 0 } ∷ []))
     go true q = let l = ltb-true (length row) n q in join-room n c row h (omega arith)
     go false q = let l = ltb-false (length row) n q in join-none n c row h low (omega arith)
