@@ -1,11 +1,12 @@
 -- Document 01, "The store is a row of 1 to 64 records", as a lent slice of records: what each call answers and leaves, for any records lent.
--- The row's own rules are those of `store`: a cookie that is held, its time, a report, sound records.
-use mathlib.Core.Bool.{Bool, cond, not, _||_}
+-- The row's own rules are those of `store_rules`: sound records, when a clear and a report are refused and what they leave, a cookie that is held, its time.
+use mathlib.Core.Bool.{Bool, cond, _||_}
 use mathlib.Core.List.{List, [], _∷_, _++_, map}
 use Prim.Native.Nat.{ℕ, _+_, _<_, _^_}
 use lib.Dec.{eqb, ltb}
 use lib.ListN.{length, take, drop, replicate}
-use Rattle.store_rules.specs.Row.{Record, held, reported, usedOf, soundRecords, refusedReport}
+use Rattle.store_rules.specs.Row.{Record, held, reported, usedOf, wrongRow, clearing, refusedReport, unlessRefused}
+pub use Rattle.store_rules.specs.Row.{unusedRecord}
 use Rattle.records.specs.declared.Record.{Record as Slot}
 
 -- ---- the one conversion: a record of a slice is a record of the row
@@ -21,30 +22,23 @@ abbrev pub Fit : List Record → Type 0
 Fit [] = Unit {0}
 Fit (r ∷ rs) = (r .cookie < 2 ^ 64) × (r .time < 2 ^ 64) × Fit rs
 
--- an unused record
-abbrev pub unusedRecord : Record
-unusedRecord = record { cookie = 0; time = 0 }
-
 -- ---- the calls
 
 -- a row is 1 to 64 records
 abbrev pub wrongCount : ℕ → Bool
 wrongCount n = ltb n 1 || ltb 64 n
 
--- the store part of refusal 6
 unfoldable pub wrongRecords : List Record → Bool
-wrongRecords rs = wrongCount (length rs) || not (soundRecords rs)
+wrongRecords rs = wrongRow (wrongCount (length rs)) rs
 
--- clearing checks the size only: the refusal, and the records after it
 unfoldable pub clearRecords : List Record → ℕ × List Record
-clearRecords rs = cond (wrongCount (length rs)) (6, rs) (0, replicate (length rs) unusedRecord)
+clearRecords rs = clearing (wrongCount (length rs)) rs (replicate (length rs) unusedRecord)
 
--- a report of a cookie's time
 abbrev pub reportRefusal : List Record → ℕ → ℕ → ℕ
 reportRefusal rs c t = refusedReport (wrongRecords rs) (usedOf rs) c t
 
 unfoldable pub reportRecords : List Record → ℕ → ℕ → ℕ × List Record
-reportRecords rs c t = cond (eqb (reportRefusal rs c t) 0) (0, reported c t rs) (reportRefusal rs c t, rs)
+reportRecords rs c t = unlessRefused (reportRefusal rs c t) rs (reported c t rs)
 
 -- the record at a place leaves: those after it move up by one, and the last is unused; past the end none leaves
 unfoldable pub leaveRecords : List Record → ℕ → List Record

@@ -15,7 +15,7 @@ use Rattle.responder_rules.specs.declared.Answered.{Answered}
 use Rattle.responder_rules.specs.declared.Answered.the-variants.{Written, Refused}
 use Rattle.responder_rules.specs.Claim.{Accepted}
 use Rattle.responder_rules.proofs.Accepting.{not-given}
-use Rattle.records_answer.specs.Step.{Stepped}
+use Rattle.records_answer.specs.Step.{Stepped, stepped}
 use Rattle.records_answer.specs.Answer.{firstRefusal, checkedRequest, shortOutput, stepOf, Outcome, outcome, answerRecords}
 use Rattle.records_answer.specs.Sent.{Ready, sentOctets, sentBy}
 use Rattle.records_answer.specs.declared.Step.{Step}
@@ -49,7 +49,7 @@ octets-sent : (g : Given) (rs : List Record) → sentOctets g (savedTime (asking
 unfolding answerOctets
 octets-sent g rs = refl
 
-module _ (g : Given) (rs : List Record) (out : List ℕ) (step : Step) (l : List Record) (e : _≡_ {A = Stepped} (record { refusal = step .refusal; saved = step .saved; records = l }) (stepOf g rs out)) where
+module _ (g : Given) (rs : List Record) (out : List ℕ) (step : Step) (l : List Record) (e : stepped step l ≡ stepOf g rs out) where
   number : step .refusal ≡ stepOf g rs out .refusal
   number = ap (λ (s : Stepped). s .refusal) e
 

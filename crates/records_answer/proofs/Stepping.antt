@@ -19,7 +19,7 @@ use Rattle.records.specs.Records.{unusedRecord, wrongCount, wrongRecords, leave
 use Rattle.records.proofs.Moves.{leave-past}
 use Rattle.records.proofs.Sounds.{Sound, held-row, time-row, time-at, right-sound}
 use Rattle.responder_rules.specs.Answer.{wantsInterleaved, savedTime, rowAfter, wrongFresh}
-use Rattle.records_answer.specs.Step.{Stepped, rowInRecords, refuse, answerStep}
+use Rattle.records_answer.specs.Step.{Stepped, stepped, rowInRecords, refuse, answerStep}
 use Rattle.records_answer.specs.Value.{askedCookie, unchangedPlan, keepingPlan, planFor, planFrom, planOf}
 use Rattle.records_answer.specs.declared.value.Plan.{Plan}
 use Rattle.records_answer.proofs.RowInRecords.{row-most, right-row, leave-row, join-row}
@@ -30,7 +30,7 @@ module _ (rs : List Record) (freshCookie : ServerCookie) where
   keptBy p = cond (p .unchanged) rs (joinRecords (leaveRecords rs (p .leaving)) (freshCookie .0))
 
   abbrev pub stepBy : Plan → Stepped
-  stepBy p = record { refusal = p .step .refusal; saved = p .step .saved; records = keptBy p }
+  stepBy p = stepped (p .step) (keptBy p)
 
   -- none leaves
   stays : leaveRecords rs (length rs) ≡ rs

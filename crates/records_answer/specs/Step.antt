@@ -8,6 +8,7 @@ use Rattle.header.specs.declared.Reading.the-variants.{Fields, Refused}
 use Rattle.store_rules.specs.Row.{Record, usedOf}
 use Rattle.records.specs.Records.{unusedRecord, wrongRecords}
 use Rattle.responder_rules.specs.Answer.{savedTime, rowAfter, wrongFresh}
+use Rattle.records_answer.specs.declared.Step.{Step}
 
 -- a row in n records: the used ones first
 abbrev pub rowInRecords : ℕ → List Record → List Record
@@ -18,6 +19,10 @@ pub record Stepped : Type 0 where
   pub refusal : ℕ
   pub saved : ℕ
   pub records : List Record
+
+-- what the call returns and leaves, as such
+abbrev pub stepped : Step → List Record → Stepped
+stepped r rs = record { refusal = r .refusal; saved = r .saved; records = rs }
 
 -- a refusal leaves the records
 abbrev pub refuse : ℕ → List Record → Stepped

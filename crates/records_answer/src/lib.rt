@@ -9,7 +9,7 @@ pub use responder_rules::Answered;
 pub use responder_rules::Server;
 ghost use mathlib.Core.Path.{_≡_};
 ghost use Rattle.records.specs.Records.{recordsIn};
-ghost use Rattle.records_answer.specs.Step.{Stepped, answerStep};
+ghost use Rattle.records_answer.specs.Step.{stepped, answerStep};
 ghost use Rattle.records_answer.specs.Answer.{outcome, answerRecords};
 
 // What the step of an answer on the records returns: its refusal, and the saved time that is sent, 0 in a basic answer.
@@ -26,8 +26,7 @@ pub fn answer_step(
     short: bool,
     fresh_cookie: ServerCookie,
 ) -> Step
-    ensures { λ r. ⌜ _≡_ {A = Stepped} (record { refusal = r .refusal; saved = r .saved; records = recordsIn (now (records .exit)) })
-        (answerStep request short («fresh_cookie» .0) (recordsIn (now (records .entry)))) ⌝ }
+    ensures { λ r. ⌜ stepped r (recordsIn (now (records .exit))) ≡ answerStep request short («fresh_cookie» .0) (recordsIn (now (records .entry))) ⌝ }
 {
     let is_wrong = records::wrong(records);
     let fresh_at = records::find(records, 0, fresh_cookie);

@@ -56,7 +56,7 @@ use Rattle.responder_rules.proofs.Server as Sv
 use Rattle.responder_rules.proofs.Server.Laws as Sv′
 use Rattle.responder_rules.proofs.Answered as An
 use Rattle.responder_rules.proofs.Answered.Laws as An′
-use Rattle.records_answer.specs.Step.{Stepped}
+use Rattle.records_answer.specs.Step.{stepped}
 use Rattle.records_answer.specs.Answer.{checkedRequest, shortOutput, stepOf, outcome, answerRecords}
 use Rattle.records_answer.specs.Sent.{Ready, sentBy}
 use Rattle.records_answer.specs.declared.Step.{Step}
@@ -246,7 +246,7 @@ module _ {M : Type 1} (𝓤 : URA M) (H : Heap 𝓤) (A : Atoms 𝓤) (W : Given
       (slice-pre 𝓤 H A W κr qr Own0 (Rd.the-row ∷ bool ∷ Ck.the-row ∷ []) (EL.makes Rd.the-type Rd′.the-plain 𝓤 H A, (bool-makes 𝓤 H A W, (LL.makes Ck.the-type Ck′.the-plain 𝓤 H A, tt))) (stepping .0 .3 .1) (stepping .0 .4 .1) (subst IsReading ed gd, (refl, (gk, tt)))) $
       calls-giving ! (fmOf 𝓤 H (W .laws) 𝓣) (Steps 𝓤 H A mem run) (known .knows-step) stepping St.the-row St′.lowered (LL.tells St.the-type St′.the-laws) (‵ (flft κr qr) ⊛ ‵ ftrue) (List Slot × (Unit {0} × (Unit {0} × (Unit {0} × Unit {0}))))
       (λ z. fsep (fsep (finally T.the-row (rs .name) (z .0)) (feq ℕ (length (z .0)) (length (rs .now)))) (fsep ftrue (fsep ftrue (fsep ftrue (ftrue)))))
-      (λ s z. _≡_ {A = Stepped} (record { refusal = s .refusal; saved = s .saved; records = recordsIn (z .0) }) (stepOf g (recordsIn (rs .now)) (out .now))) (λ v. id⊢ 𝓤 _) (and-then ! (load ! (from ! (stop !)) (look ! 13 refl)) (and-then ! (load ! (from ! (stop !)) (look ! 25 refl)) (and-then ! (load ! (from ! (stop !)) (look ! 23 refl)) (and-then ! (load ! (from ! (stop !)) (look ! 35 refl)) (no-more !))))) (λ s gs₁ z es.
+      (λ s z. stepped s (recordsIn (z .0)) ≡ stepOf g (recordsIn (rs .now)) (out .now)) (λ v. id⊢ 𝓤 _) (and-then ! (load ! (from ! (stop !)) (look ! 13 refl)) (and-then ! (load ! (from ! (stop !)) (look ! 25 refl)) (and-then ! (load ! (from ! (stop !)) (look ! 23 refl)) (and-then ! (load ! (from ! (stop !)) (look ! 35 refl)) (no-more !))))) (λ s gs₁ z es.
       split ! $ move ! (1 ∷ []) $ drop ! $ move ! (1 ∷ []) $ fsplit ! $ fsplit ! $ move ! (1 ∷ []) $ feqL ! (λ e. move ! (1 ∷ []) $ drop ! $
       -- [the last records; their token; the tokens and what is owned of the shared slices; the output's token, and what is owned of it; _18; …]
       land ! (from ! (stop !)) (init ! 22 refl (LL.lawful St.the-type St′.the-laws 𝓤 H A W .typed s (St′.lowered s ∷ []) gs₁ .0)) $

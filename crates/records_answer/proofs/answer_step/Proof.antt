@@ -75,7 +75,7 @@ use Rattle.records.proofs.join as join
 use Rattle.records.proofs.join.Symbol as join-def
 use Rattle.records.proofs.join.Symbol.{name as #join}
 use Rattle.records.proofs.join.Met as join-thm
-use Rattle.records_answer.specs.Step.{Stepped, answerStep}
+use Rattle.records_answer.specs.Step.{stepped, answerStep}
 use Rattle.records_answer.specs.Value.{askedCookie, planOf}
 use Rattle.records_answer.specs.declared.Step.{Step}
 use Rattle.records_answer.specs.declared.value.Plan.{Plan}
@@ -149,7 +149,7 @@ module _ {M : Type 1} (𝓤 : URA M) (H : Heap 𝓤) (A : Atoms 𝓤) (W : Given
 
   -- what is to be shown at a return
   abbrev Says : Step → List Slot → Type 0
-  Says r l = _≡_ {A = Stepped} (record { refusal = r .refusal; saved = r .saved; records = recordsIn l }) (answerStep rq short (ck .0) (recordsIn ys))
+  Says r l = stepped r (recordsIn l) ≡ answerStep rq short (ck .0) (recordsIn ys)
 
   exits : (r : Step) → IsStep r → (l : List Slot) → length l ≡ n → Says r l → ent 𝓤 (⋆ 𝓤 H A (Has 𝓤 κ q b o γ l [])) (Post (St′.lowered r))
   exits r gs l e said =
@@ -216,12 +216,12 @@ module _ {M : Type 1} (𝓤 : URA M) (H : Heap 𝓤) (A : Atoms 𝓤) (W : Given
         by-plan = ap (stepBy (recordsIn ys) ck) made ∙ plan-steps (recordsIn ys) ck rq short
 
         stayed-by : plan .unchanged ≡ true → Says (plan .step) ys
-        stayed-by u = sym (ap (λ (c : Bool). record { refusal = plan .step .refusal; saved = plan .step .saved; records = cond c (recordsIn ys) (joinRecords (leaveRecords (recordsIn ys) (plan .leaving)) (ck .0)) }) u) ∙ by-plan
+        stayed-by u = sym (ap (λ (c : Bool). stepped (plan .step) (cond c (recordsIn ys) (joinRecords (leaveRecords (recordsIn ys) (plan .leaving)) (ck .0)))) u) ∙ by-plan
 
         changed-by : plan .unchanged ≡ false → (k : List Slot) → recordsIn k ≡ joinRecords (leaveRecords (recordsIn ys) (plan .leaving)) (ck .0) → Says (plan .step) k
         changed-by u k e =
-            ap (λ (m : List Record). record { refusal = plan .step .refusal; saved = plan .step .saved; records = m }) e
-            ∙ sym (ap (λ (c : Bool). record { refusal = plan .step .refusal; saved = plan .step .saved; records = cond c (recordsIn ys) (joinRecords (leaveRecords (recordsIn ys) (plan .leaving)) (ck .0)) }) u)
+            ap (stepped (plan .step)) e
+            ∙ sym (ap (λ (c : Bool). stepped (plan .step) (cond c (recordsIn ys) (joinRecords (leaveRecords (recordsIn ys) (plan .leaving)) (ck .0)))) u)
             ∙ by-plan
 
   -- what `wrong` and `time` are asked while the slice is lent for α
