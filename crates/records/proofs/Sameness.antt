@@ -22,7 +22,7 @@ use Rattle.store_rules.proofs.Changed.{join-free as octets-free, join-full as o
 use Rattle.records.specs.Records.{unusedRecord, Fit, wrongCount, wrongRecords, clearRecords, reportRefusal, reportRecords, leaveRecords, withCookieAtFree, joinRecords}
 use Rattle.records.proofs.Moves.{length-leave, leave-past}
 use Rattle.records.proofs.Joining.{withCookie, join-free, join-full, last-free}
-use Rattle.records.proofs.Encoding.{size-is, count-is, row-octets, read-back, row-is, wrong-is, place-is, time-is, put-at}
+use Rattle.records.proofs.Encoding.{size-is, count-is, row-octets, read-back, row-is, wrong-is, place-is, put-at}
 
 -- what a call on records leaves, as octets
 abbrev pub spelled : ℕ × List Record → ℕ × List ℕ

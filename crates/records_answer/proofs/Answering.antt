@@ -16,7 +16,7 @@ use Rattle.responder_rules.specs.Answer.{Given, asking, rowAfter, wrongArgument
 use Rattle.responder_rules.proofs.Accepting.{answer-written, answer-refused}
 use Rattle.records_answer.specs.Step.{Stepped, refuse, answerStep}
 use Rattle.records_answer.specs.Answer.{firstRefusal, shortOutput, stepOf, Outcome, answerRecords}
-use Rattle.records_answer.specs.Same.{answer, Returned, answered, onRecords, onOctets}
+use Rattle.records_answer.specs.Same.{Returned, answered}
 use Rattle.records_answer.proofs.Ways.{Way, goes, stops, done, eight, stepAt, way, answer-done, answer-stopped}
 
 module _ (g : Given) (rs : List Record) (f : Fit rs) (out : List ℕ) where

@@ -1,6 +1,5 @@
 -- What an answer returns and leaves, by what its step and what was sent say. Assumes nothing.
 use mathlib.Core.Path.{_≡_, refl, sym, ap, _∙_}
-use mathlib.Core.Bool.{false}
 use mathlib.Core.List.{List, [], _++_}
 use Prim.Native.Nat.{ℕ}
 use borrow.Author.Tests.{ltb-false, eq-eqb, eqb-true, ne-eqb, not-false}

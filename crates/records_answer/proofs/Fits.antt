@@ -13,7 +13,7 @@ use Rattle.header.specs.declared.Reading.the-variants.{Fields, Refused}
 use Rattle.store_rules.specs.Row.{Record, held, reported, without, joined, unused, usedOf}
 use Rattle.records.specs.Records.{unusedRecord, Fit, wrongCount, wrongRecords, clearRecords, reportRefusal, reportRecords, leaveRecords, withCookieAtFree, joinRecords}
 use Rattle.responder_rules.specs.Answer.{Given, wantsInterleaved, savedTime, wrongFresh, rowAfter}
-use Rattle.records_answer.specs.Step.{Stepped, rowInRecords, refuse, answerStep}
+use Rattle.records_answer.specs.Step.{rowInRecords, refuse, answerStep}
 use Rattle.records_answer.specs.Answer.{Outcome, checkedRequest, shortOutput, stepOf, answerRecords}
 use Rattle.records_answer.specs.Same.{Call, clear, wrong, find, time, report, leave, join, answer, onRecords, Typed}
 

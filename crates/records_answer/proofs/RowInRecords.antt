@@ -11,8 +11,8 @@ use lib.Seq.{take-at, drop-at}
 use Rattle.store_rules.specs.Row.{Record, held, without, joined, unused, allUnused, usedOf}
 use Rattle.store_rules.specs.Place.{indexOf}
 use Rattle.store_rules.proofs.Rows.{or-none, Parted, part-row, held-append, index-append}
-use Rattle.records.specs.Records.{unusedRecord, wrongRecords, leaveRecords, withCookieAtFree, joinRecords}
-use Rattle.records.proofs.Sounds.{unused-zero, Sound, right-sound}
+use Rattle.records.specs.Records.{unusedRecord, leaveRecords, withCookieAtFree, joinRecords}
+use Rattle.records.proofs.Sounds.{unused-zero, Sound}
 use Rattle.records_answer.specs.Step.{rowInRecords}
 
 -- ---- records that are not wrong are so

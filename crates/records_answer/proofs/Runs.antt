@@ -2,26 +2,26 @@
 use mathlib.Core.Path.{_≡_, refl, sym, ap, _∙_}
 use mathlib.Core.Bool.{Bool, true, false, cond}
 use mathlib.Core.List.{List, [], _∷_}
-use Prim.Native.Nat.{ℕ, suc, _+_, _<_, _^_}
+use Prim.Native.Nat.{ℕ, _+_, _<_, _^_}
 use native.Mathlib.Omega.{arith}
 use borrow.Author.Tests.{eqb-true, eqb-false}
 use lib.Dec.{eqb}
-use lib.ListN.{length, getD}
+use lib.ListN.{length}
 use Rattle.octets.specs.Number.{putAt}
-use Rattle.store_rules.specs.Row.{Record, held, timeOf, reported, without, joined, usedOf, rowOctets, storeOctets, rowOf, wrongStore}
+use Rattle.store_rules.specs.Row.{Record, held, reported, without, joined, usedOf, rowOctets, storeOctets, rowOf, wrongStore}
 use Rattle.store_rules.specs.Place.{indexOf, placeOf, removed, joinedOctets}
 use Rattle.store_rules.proofs.Rows.{held-index}
 use Rattle.store_rules.proofs.Stores.{Stores, store-read, stores-right, stores-row}
 use Rattle.store_rules.proofs.Steps.{stores-removed, stores-reported, stores-joined}
 use Rattle.store_rules.proofs.Changed.{place-reported}
-use Rattle.records.specs.Records.{recordsIn, unusedRecord, Fit, wrongRecords, reportRefusal, reportRecords, leaveRecords, joinRecords}
+use Rattle.records.specs.Records.{recordsIn, Fit, wrongRecords, reportRefusal, reportRecords, leaveRecords, joinRecords}
 use Rattle.records.proofs.Sounds.{held-row, time-row, time-at, right-sound}
 use Rattle.records.proofs.Encoding.{size-is, row-octets, row-is, wrong-is, place-is, time-is}
 use Rattle.records.proofs.Sameness.{clear-same, report-same, report-octets, unrefused, leave-same, join-same}
 use Rattle.responder_rules.specs.Answer.{Given, asking, rowAfter}
 use Rattle.responder_rules.proofs.Leaving.{answer-stores}
 use Rattle.records_answer.specs.Answer.{answerRecords}
-use Rattle.records_answer.specs.Same.{Call, clear, wrong, find, time, report, leave, join, answer, Returned, number, onRecords, onOctets, returned, after, Typed, AllTyped, SameCalls, Same, Holds, ByRow}
+use Rattle.records_answer.specs.Same.{Call, clear, wrong, find, time, report, leave, join, answer, Returned, number, onRecords, onOctets, returned, after, AllTyped, SameCalls, Same, Holds, ByRow}
 use Rattle.records_answer.proofs.Fits.{fit-report, fit-leave, fit-join, fit-step}
 use Rattle.records_answer.proofs.Answering.{answer-same, answer-octets, answer-unrefused}
 

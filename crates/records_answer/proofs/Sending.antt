@@ -1,12 +1,12 @@
 -- What is checked and sent beside the records. Assumes nothing.
-use mathlib.Core.Path.{_≡_, refl, sym, ap, _∙_}
-use mathlib.Core.List.{List, [], _++_}
+use mathlib.Core.Path.{_≡_, sym, ap, _∙_}
+use mathlib.Core.List.{List, []}
 use Prim.Native.Nat.{ℕ, zero, suc, _-_, _≤_}
 use native.Mathlib.Omega.{arith}
 use borrow.Rule.Slice.PartMut.{putMid}
 use borrow.Author.Tests.{eq-eqb, ne-eqb, ltb-false}
 use lib.ListN.{length, take, drop}
-use Rattle.header.specs.Header.{headerOf, headerOctets, refusal, reading, written}
+use Rattle.header.specs.Header.{headerOf, refusal, reading, written}
 use Rattle.header.specs.declared.Header.{Header}
 use Rattle.header.specs.declared.Reading.{Reading}
 use Rattle.header.specs.declared.Reading.the-variants.{Fields, Refused}
@@ -17,7 +17,7 @@ use Rattle.responder_rules.specs.Answer.{Given, asking, answerHeader}
 use Rattle.responder_rules.specs.declared.Answered.the-variants.{Written, Refused as RefusedAnswer}
 use Rattle.responder.proofs.Writing.{header-put, answer-put}
 use Rattle.responder.proofs.Deciding.{lent-size, lent-back}
-use Rattle.records_answer.specs.Answer.{shortOutput, outcome}
+use Rattle.records_answer.specs.Answer.{outcome}
 use Rattle.records_answer.specs.Sent.{Ready, sentOctets, sentBy}
 use Rattle.records_answer.specs.declared.Step.{Step}
 

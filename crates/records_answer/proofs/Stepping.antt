@@ -4,23 +4,23 @@ use mathlib.Core.Bool.{Bool, true, false, cond, _&&_, _||_}
 use mathlib.Core.List.{List}
 use Prim.Native.Nat.{ℕ, _≤_}
 use native.Mathlib.Omega.{arith}
-use borrow.Author.Tests.{eqb-true, eqb-false, ltb-false}
+use borrow.Author.Tests.{eqb-false, ltb-false}
 use lib.Dec.{eqb, ltb}
 use lib.ListN.{length, getD}
 use Rattle.header.specs.declared.Header.{Header}
 use Rattle.header.specs.declared.ServerCookie.{ServerCookie}
 use Rattle.header.specs.declared.Reading.{Reading}
 use Rattle.header.specs.declared.Reading.the-variants.{Fields, Refused}
-use Rattle.store_rules.specs.Row.{Record, held, timeOf, without, joined, soundRecords, usedOf}
+use Rattle.store_rules.specs.Row.{Record, held, timeOf, without, joined, usedOf}
 use Rattle.store_rules.specs.Place.{indexOf}
 use Rattle.store_rules.proofs.Rows.{or-none, held-index, time-held}
 use Rattle.store_rules.proofs.Kept.{length-without, without-absent}
-use Rattle.records.specs.Records.{unusedRecord, wrongCount, wrongRecords, leaveRecords, joinRecords}
+use Rattle.records.specs.Records.{unusedRecord, wrongRecords, leaveRecords, joinRecords}
 use Rattle.records.proofs.Moves.{leave-past}
 use Rattle.records.proofs.Sounds.{Sound, held-row, time-row, time-at, right-sound}
 use Rattle.responder_rules.specs.Answer.{wantsInterleaved, savedTime, rowAfter, wrongFresh}
 use Rattle.records_answer.specs.Step.{Stepped, stepped, rowInRecords, refuse, answerStep}
-use Rattle.records_answer.specs.Value.{askedCookie, unchangedPlan, keepingPlan, planFor, planFrom, planOf}
+use Rattle.records_answer.specs.Value.{askedCookie, unchangedPlan, keepingPlan, planFor, planOf}
 use Rattle.records_answer.specs.declared.value.Plan.{Plan}
 use Rattle.records_answer.proofs.RowInRecords.{row-most, right-row, leave-row, join-row}
 

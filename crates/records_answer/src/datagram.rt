@@ -7,7 +7,6 @@ use responder_rules::Server;
 ghost use mathlib.Core.Path.{_≡_};
 ghost use mathlib.Core.Bool.{cond};
 ghost use mathlib.Core.List.{[]};
-ghost use lib.ListN.{length};
 ghost use Rattle.header.specs.Header.{headerOf, reading};
 ghost use Rattle.chain.specs.Chain.{soundRefusal};
 ghost use Rattle.responder_rules.specs.Answer.{wrongArguments};

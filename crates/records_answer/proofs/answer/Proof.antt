@@ -1,7 +1,6 @@
 -- `answer` meets its contract: a walk of its code by hand, with three calls. The octets that it reads are passed on and kept; the records are given to `answer_step` for good, and the output to `sent`.
 -- Assumes nothing.
 use mathlib.Core.Path.{_≡_, refl, subst}
-use mathlib.Core.Bool.{Bool}
 use Prim.Native.Nat.{ℕ, _<_, _^_}
 use mathlib.Core.List.{List, [], _∷_}
 use lib.ListN.{length}

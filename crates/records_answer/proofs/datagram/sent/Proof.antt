@@ -1,7 +1,4 @@
 -- `sent` meets its contract: the step's refusal, or header and fields one after the other. Assumes nothing.
-use mathlib.Core.List.{List}
-use Prim.Native.Nat.{ℕ}
-use lib.ListN.{length}
 use Rattle.responder_rules.specs.Answer.{Given}
 use Rattle.responder.proofs.Writing.{request-size}
 use Rattle.records_answer.specs.Sent.{Ready}
