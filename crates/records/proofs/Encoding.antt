@@ -14,8 +14,7 @@ use Rattle.store_rules.specs.Row.{Record, usedOf, rowOctets, recordsFrom, recor
 use Rattle.store_rules.specs.Place.{indexOf, placeOf}
 use Rattle.store_rules.proofs.Written.{AllFit, length-row, records-read}
 use Rattle.store_rules.proofs.Places.{put-cookie}
-use Rattle.records.specs.Records.{vacant, wrongCount, wrongRecords}
-use Rattle.records.specs.Same.{Fit}
+use Rattle.records.specs.Records.{unusedRecord, Fit, wrongCount, wrongRecords}
 use Rattle.records.proofs.Joining.{withCookie}
 
 -- ---- sizes
@@ -67,28 +66,28 @@ module _ (rs : List Record) (f : Fit rs) where
   place-is c = rw read-back
 
 -- record i of those that octets spell
-record-at : (n : ℕ) (s : List ℕ) (at i : ℕ) → i < n → getD (recordsFrom n s at) i vacant .time ≡ num s (at + 16 * i + 8) 8
+record-at : (n : ℕ) (s : List ℕ) (at i : ℕ) → i < n → getD (recordsFrom n s at) i unusedRecord .time ≡ num s (at + 16 * i + 8) 8
 unfolding recordsFrom
 record-at zero s at i h = absurd (omega (arith, h))
 record-at (suc n) s at zero h = ap (λ (k : ℕ). num s k 8) (omega arith)
 record-at (suc n) s at (suc i) h = record-at n s (at + 16) i (omega (arith, h)) ∙ ap (λ (k : ℕ). num s k 8) (omega arith)
 
 -- its time; past the end 0
-pub time-is : (rs : List Record) → Fit rs → (at : ℕ) → getAt (rowOctets rs) (16 * at + 8) 8 ≡ getD rs at vacant .time
+pub time-is : (rs : List Record) → Fit rs → (at : ℕ) → getAt (rowOctets rs) (16 * at + 8) 8 ≡ getD rs at unusedRecord .time
 time-is rs f at = go (ltb at (length rs)) refl
   where
     s : List ℕ
     s = rowOctets rs
 
-    go : (b : Bool) → ltb at (length rs) ≡ b → getAt (rowOctets rs) (16 * at + 8) 8 ≡ getD rs at vacant .time
+    go : (b : Bool) → ltb at (length rs) ≡ b → getAt (rowOctets rs) (16 * at + 8) 8 ≡ getD rs at unusedRecord .time
     go true e =
         let l = ltb-true at (length rs) e in
         let z : 0 + 16 * at + 8 ≡ 16 * at + 8 = omega arith in
         rw (le-leb (16 * at + 8 + 8) (length (rowOctets rs)) (omega (arith, length-row rs)))
-        (sym (ap (λ (l : List Record). getD l at vacant .time) (sym (read-back rs f)) ∙ record-at (sizeOf (rowOctets rs)) (rowOctets rs) 0 at (rw (size-is rs) l) ∙ ap (λ (k : ℕ). num (rowOctets rs) k 8) z))
+        (sym (ap (λ (l : List Record). getD l at unusedRecord .time) (sym (read-back rs f)) ∙ record-at (sizeOf (rowOctets rs)) (rowOctets rs) 0 at (rw (size-is rs) l) ∙ ap (λ (k : ℕ). num (rowOctets rs) k 8) z))
     go false e =
         let l = ltb-false at (length rs) e in
-        rw (lt-leb (16 * at + 8 + 8) (length (rowOctets rs)) (omega (arith, length-row rs)), List·getD-eq-default rs vacant {n = at} l)
+        rw (lt-leb (16 * at + 8 + 8) (length (rowOctets rs)) (omega (arith, length-row rs)), List·getD-eq-default rs unusedRecord {n = at} l)
 
 -- ---- a cookie is written
 
@@ -96,8 +95,8 @@ pub put-at : (rs : List Record) (i c : ℕ) → i < length rs → putAt (rowOcte
 put-at rs i c h =
     let a = take i rs in
     let b = drop (suc i) rs in
-    let r = getD rs i vacant in
-    let e : rs ≡ a ++ (r ∷ b) = split-at rs i vacant h in
+    let r = getD rs i unusedRecord in
+    let e : rs ≡ a ++ (r ∷ b) = split-at rs i unusedRecord h in
     let k : length a ≡ i = length-take-le i rs (omega arith) in
     ap (λ (l : List Record). putAt (rowOctets l) (16 * i) 8 c) e
     ∙ ap (λ (j : ℕ). putAt (rowOctets (a ++ (r ∷ b))) (16 * j) 8 c) (sym k)

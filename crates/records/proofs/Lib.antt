@@ -7,8 +7,8 @@ pub mod Reporting
 pub mod Joining
 pub mod Encoding
 pub mod Sameness
-pub mod Runs
 pub mod Walk
 pub mod Finding
 pub mod Lending
+pub mod Calling
 pub mod Leaving

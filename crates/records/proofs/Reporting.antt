@@ -11,7 +11,7 @@ use lib.Seq.{getD-at, set-at, set-getD}
 use Rattle.store_rules.specs.Row.{Record, held, timeOf, reported, usedOf}
 use Rattle.store_rules.specs.Place.{indexOf}
 use Rattle.store_rules.proofs.Rows.{or-none, Parted, part-row, held-index}
-use Rattle.records.specs.Records.{recordOf, recordsIn, vacant, wrongRecords, reportRecords}
+use Rattle.records.specs.Records.{recordOf, recordsIn, unusedRecord, wrongRecords, reportRecords}
 use Rattle.records.specs.Value.{reportedOne, absentRefusal}
 use Rattle.records.specs.declared.Record.{Record as Slot}
 use Rattle.records.specs.declared.value.Report.{Report}
@@ -67,7 +67,7 @@ module _ (rs : List Slot) (c t p : ℕ) (ep : p ≡ placeFrom (recordsIn rs) c 0
   at-p = sym (parted .index) ∙ place-is
 
   found : recordOf (getD rs p none) ≡ parted .found
-  found = sym (get-in rs p) ∙ rw (parted .whole) (getD-at (parted .before) (parted .found) (parted .after) vacant p at-p)
+  found = sym (get-in rs p) ∙ rw (parted .whole) (getD-at (parted .before) (parted .found) (parted .after) unusedRecord p at-p)
 
   its-cookie : getD rs p none .cookie .0 ≡ c
   its-cookie = ap (λ (r : Record). r .cookie) found ∙ parted .its-cookie
@@ -77,7 +77,7 @@ module _ (rs : List Slot) (c t p : ℕ) (ep : p ≡ placeFrom (recordsIn rs) c 0
 
   -- it is stored as it was
   kept : recordsIn (set rs p (getD rs p none)) ≡ recordsIn rs
-  kept = set-in rs p (getD rs p none) ∙ rw (← get-in rs p) (set-getD (recordsIn rs) p vacant)
+  kept = set-in rs p (getD rs p none) ∙ rw (← get-in rs p) (set-getD (recordsIn rs) p unusedRecord)
 
   -- or with the time
   timed : Slot

@@ -1,4 +1,4 @@
--- Each call on records is the same call on their octets, so every list of calls is. Assumes nothing.
+-- Each call on records is the same call on their octets. Assumes nothing.
 use mathlib.Core.Path.{_≡_, refl, sym, ap, _∙_}
 use mathlib.Core.Bool.{Bool, true, false, cond, not, _||_, true≢false}
 use mathlib.Core.List.{List, [], _∷_, _++_}
@@ -19,23 +19,22 @@ use Rattle.store_rules.proofs.Stores.{store-read}
 use Rattle.store_rules.proofs.Places.{remove-record}
 use Rattle.store_rules.proofs.Kept.{length-reported}
 use Rattle.store_rules.proofs.Changed.{join-free as octets-free, join-full as octets-full}
-use Rattle.records.specs.Records.{vacant, wrongCount, wrongRecords, clearRecords, reportRefusal, reportRecords, leaveRecords, seated, joinRecords}
-use Rattle.records.specs.Same.{Fit, Call, clear, wrong, find, time, report, leave, join, onRecords, onOctets}
+use Rattle.records.specs.Records.{unusedRecord, Fit, wrongCount, wrongRecords, clearRecords, reportRefusal, reportRecords, leaveRecords, withCookieAtFree, joinRecords}
 use Rattle.records.proofs.Moves.{length-leave, leave-past}
 use Rattle.records.proofs.Joining.{withCookie, join-free, join-full, last-free}
-use Rattle.records.proofs.Encoding.{size-is, count-is, row-octets, read-back, row-is, wrong-is, place-is, time-is, put-at}
+use Rattle.records.proofs.Encoding.{size-is, count-is, row-octets, read-back, row-is, wrong-is, place-is, put-at}
 
 -- what a call on records leaves, as octets
-abbrev spelled : ℕ × List Record → ℕ × List ℕ
+abbrev pub spelled : ℕ × List Record → ℕ × List ℕ
 spelled w = (w .0, rowOctets (w .1))
 
 -- ---- clearing
 
-clear-same : (rs : List Record) → cleared (rowOctets rs) ≡ spelled (clearRecords rs)
+pub clear-same : (rs : List Record) → cleared (rowOctets rs) ≡ spelled (clearRecords rs)
 unfolding cleared clearRecords
 clear-same rs = rw (count-is rs, size-is rs) (go (wrongCount (length rs)))
   where
-    go : (b : Bool) → cond b (6, rowOctets rs) (0, storeOctets (length rs) []) ≡ spelled (cond b (6, rs) (0, replicate (length rs) vacant))
+    go : (b : Bool) → cond b (6, rowOctets rs) (0, storeOctets (length rs) []) ≡ spelled (cond b (6, rs) (0, replicate (length rs) unusedRecord))
     go true = refl
     go false = ap (λ (l : List ℕ). (0, l)) (store-row (length rs) [] ∙ rw sub-zero)
 
@@ -59,11 +58,11 @@ module _ (rs : List Record) (at : ℕ) where
   unfolding leaveRecords
   leave-inside l =
       let a = take at rs in
-      let r = getD rs at vacant in
+      let r = getD rs at unusedRecord in
       let b = drop (suc at) rs in
       let k : length a ≡ at = length-take-le at rs (omega arith) in
-      let d : drop (at + 1) (rs ++ (vacant ∷ [])) ≡ b ++ (vacant ∷ []) = rw (add-one at) (drop-append-le (suc at) rs (vacant ∷ []) l) in
-      ap (λ (l : List Record). removed (rowOctets l) (16 * at)) (split-at rs at vacant l)
+      let d : drop (at + 1) (rs ++ (unusedRecord ∷ [])) ≡ b ++ (unusedRecord ∷ []) = rw (add-one at) (drop-append-le (suc at) rs (unusedRecord ∷ []) l) in
+      ap (λ (l : List Record). removed (rowOctets l) (16 * at)) (split-at rs at unusedRecord l)
       ∙ ap (λ (j : ℕ). removed (rowOctets (a ++ (r ∷ b))) (16 * j)) (sym k)
       ∙ remove-record a r b
       ∙ ap (λ (l : List Record). rowOctets (a ++ l)) (sym d)
@@ -104,7 +103,7 @@ join-some rs f c h = go (ltb (indexOf 0 rs) (length rs)) refl
         sym (octets-full (rowOctets rs) c (16 * indexOf 0 rs) (sym (place-is rs f 0)) (omega (arith, length-row rs))) ∙ join-last rs c h q
 
 pub join-same : (rs : List Record) → Fit rs → (c : ℕ) → joinedOctets (rowOctets rs) c ≡ rowOctets (joinRecords rs c)
-unfolding joinedOctets placeOf indexOf removed rowOctets recordsFrom joinRecords leaveRecords seated held
+unfolding joinedOctets placeOf indexOf removed rowOctets recordsFrom joinRecords leaveRecords withCookieAtFree held
 join-same [] f c = refl
 join-same (r ∷ rs) f c = join-some (r ∷ rs) f c (omega arith)
 
@@ -141,14 +140,3 @@ module _ (rs : List Record) (f : Fit rs) (c t : ℕ) where
           → cond b (0, storeOctets (sizeOf (rowOctets rs)) (reported c t (usedOf rs))) (reportRefusal rs c t, rowOctets rs) ≡ spelled (cond b (0, reported c t rs) (reportRefusal rs c t, rs))
       go true q = let p = unrefused (eqb-true (reportRefusal rs c t) 0 q) in ap (λ (l : List ℕ). (0, l)) (report-octets (p .0) (p .1))
       go false q = refl
-
--- ---- every call
-
-pub step-same : (c : Call) (rs : List Record) → Fit rs → onOctets c (rowOctets rs) ≡ spelled (onRecords c rs)
-step-same clear rs f = clear-same rs
-step-same wrong rs f = ap (λ (b : Bool). (cond b 1 0, rowOctets rs)) (wrong-is rs f)
-step-same (find c) rs f = ap (λ (i : ℕ). (i, rowOctets rs)) (rw (place-is rs f c) (omega arith))
-step-same (time at) rs f = ap (λ (t : ℕ). (t, rowOctets rs)) (time-is rs f at)
-step-same (report c t) rs f = report-same rs f c t
-step-same (leave at) rs f = ap (λ (l : List ℕ). (0, l)) (leave-same rs at)
-step-same (join c) rs f = ap (λ (l : List ℕ). (0, l)) (join-same rs f c)

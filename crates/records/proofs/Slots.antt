@@ -11,7 +11,7 @@ use lib.ListN.{length, getD, set, drop, length-map, List·getD-map, drop-of-leng
 use lib.Seq.{drop-cons}
 use Rattle.store_rules.specs.Row.{Record}
 use Rattle.store_rules.specs.Place.{indexOf}
-use Rattle.records.specs.Records.{recordOf, recordsIn, vacant}
+use Rattle.records.specs.Records.{recordOf, recordsIn, unusedRecord}
 use Rattle.records.specs.declared.Record.{Record as Slot}
 
 -- an unused record of a slice
@@ -36,7 +36,7 @@ records-one rs ss e = sym (there-and-back rs) ∙ ap (map slotOf) e ∙ there-an
 pub length-in : (rs : List Slot) → length (recordsIn rs) ≡ length rs
 length-in rs = length-map rs recordOf
 
-pub get-in : (rs : List Slot) (i : ℕ) → getD (recordsIn rs) i vacant ≡ recordOf (getD rs i none)
+pub get-in : (rs : List Slot) (i : ℕ) → getD (recordsIn rs) i unusedRecord ≡ recordOf (getD rs i none)
 get-in rs i = List·getD-map recordOf rs i none
 
 pub set-in : (rs : List Slot) (i : ℕ) (r : Slot) → recordsIn (set rs i r) ≡ set (recordsIn rs) i (recordOf r)
@@ -45,8 +45,8 @@ set-in (x ∷ rs) zero r = refl
 set-in (x ∷ rs) (suc i) r = ap (λ (l : List Record). recordOf x ∷ l) (set-in rs i r)
 
 -- the records from a place on: one, and the rest
-pub next-in : (rs : List Record) (i : ℕ) → i < length rs → drop i rs ≡ getD rs i vacant ∷ drop (i + 1) rs
-next-in rs i h = rw (add-one i) (drop-cons rs i vacant h)
+pub next-in : (rs : List Record) (i : ℕ) → i < length rs → drop i rs ≡ getD rs i unusedRecord ∷ drop (i + 1) rs
+next-in rs i h = rw (add-one i) (drop-cons rs i unusedRecord h)
 
 -- ---- the search for a cookie
 

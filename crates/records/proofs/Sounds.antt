@@ -2,16 +2,18 @@
 use mathlib.Core.Path.{_≡_, refl, sym, ap, _∙_}
 use mathlib.Core.Bool.{Bool, true, false, cond, not, _&&_, and-eq-true-iff, or-false}
 use mathlib.Core.List.{List, [], _∷_, _++_}
-use Prim.Native.Nat.{ℕ}
+use Prim.Native.Nat.{ℕ, suc, _+_}
+use native.Mathlib.Omega.{arith}
 use borrow.Author.Tests.{eqb-true, ne-eqb, not-true, not-false}
 use lib.Dec.{eqb}
-use lib.ListN.{length}
+use lib.ListN.{length, getD}
 use Rattle.store_rules.specs.Row.{Record, held, timeOf, unused, allUnused, usedOf, soundRecords}
+use Rattle.store_rules.specs.Place.{indexOf}
 use Rattle.store_rules.proofs.Rows.{or-none, held-append, time-append}
-use Rattle.records.specs.Records.{wrongCount, wrongRecords}
+use Rattle.records.specs.Records.{unusedRecord, wrongCount, wrongRecords}
 
 -- an unused record has cookie 0 and time 0
-unused-zero : (r : Record) → unused r ≡ true → (r .cookie ≡ 0) × (r .time ≡ 0)
+pub unused-zero : (r : Record) → unused r ≡ true → (r .cookie ≡ 0) × (r .time ≡ 0)
 unused-zero r h = let p = and-eq-true-iff (eqb (r .cookie) 0) (eqb (r .time) 0) .0 h in (eqb-true (r .cookie) 0 (p .0), eqb-true (r .time) 0 (p .1))
 
 -- unused records hold no cookie but 0
@@ -77,3 +79,13 @@ time-row c rs w = sym (ap (timeOf c) (w .parts) ∙ time-append c (usedOf rs) (w
 pub right-sound : (rs : List Record) → wrongRecords rs ≡ false → Sound rs
 unfolding wrongRecords
 right-sound rs h = sound-parts rs (not-false (soundRecords rs) (or-none (wrongCount (length rs)) (not (soundRecords rs)) h .1))
+
+-- the time of a cookie stands where the cookie does
+pub time-at : (c : ℕ) (rs : List Record) → timeOf c rs ≡ getD rs (indexOf c rs) unusedRecord .time
+unfolding timeOf indexOf
+time-at c [] = refl
+time-at c (r ∷ rs) = go (eqb (r .cookie) c) (time-at c rs)
+  where
+    go : (b : Bool) → timeOf c rs ≡ getD rs (indexOf c rs) unusedRecord .time → cond b (r .time) (timeOf c rs) ≡ getD (r ∷ rs) (cond b 0 (1 + indexOf c rs)) unusedRecord .time
+    go true e = refl
+    go false e = let o : 1 + indexOf c rs ≡ suc (indexOf c rs) = omega arith in rw o e

@@ -1,4 +1,3 @@
 -- The responder's saved timestamps as a slice of records.
 pub mod Records
 pub mod Value
-pub mod Same

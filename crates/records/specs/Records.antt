@@ -1,11 +1,12 @@
 -- Document 01, "The store is a row of 1 to 64 records", as a lent slice of records: what each call answers and leaves, for any records lent.
--- The row's own rules are those of `store`: a cookie that is held, its time, a report, sound records.
-use mathlib.Core.Bool.{Bool, cond, not, _||_}
+-- The row's own rules are those of `store_rules`: sound records, when a clear and a report are refused and what they leave, a cookie that is held, its time.
+use mathlib.Core.Bool.{Bool, cond, _||_}
 use mathlib.Core.List.{List, [], _∷_, _++_, map}
-use Prim.Native.Nat.{ℕ, _+_}
+use Prim.Native.Nat.{ℕ, _+_, _<_, _^_}
 use lib.Dec.{eqb, ltb}
 use lib.ListN.{length, take, drop, replicate}
-use Rattle.store_rules.specs.Row.{Record, held, reported, usedOf, soundRecords, refusedReport}
+use Rattle.store_rules.specs.Row.{Record, held, reported, usedOf, wrongRow, clearing, refusedReport, unlessRefused}
+pub use Rattle.store_rules.specs.Row.{unusedRecord}
 use Rattle.records.specs.declared.Record.{Record as Slot}
 
 -- ---- the one conversion: a record of a slice is a record of the row
@@ -16,9 +17,10 @@ recordOf r = record { cookie = r .cookie .0; time = r .time }
 abbrev pub recordsIn : List Slot → List Record
 recordsIn rs = map recordOf rs
 
--- an unused record
-abbrev pub vacant : Record
-vacant = record { cookie = 0; time = 0 }
+-- numbers of 64 bits, as every u64 is
+abbrev pub Fit : List Record → Type 0
+Fit [] = Unit {0}
+Fit (r ∷ rs) = (r .cookie < 2 ^ 64) × (r .time < 2 ^ 64) × Fit rs
 
 -- ---- the calls
 
@@ -26,30 +28,27 @@ vacant = record { cookie = 0; time = 0 }
 abbrev pub wrongCount : ℕ → Bool
 wrongCount n = ltb n 1 || ltb 64 n
 
--- the store part of refusal 6
 unfoldable pub wrongRecords : List Record → Bool
-wrongRecords rs = wrongCount (length rs) || not (soundRecords rs)
+wrongRecords rs = wrongRow (wrongCount (length rs)) rs
 
--- clearing checks the size only: the refusal, and the records after it
 unfoldable pub clearRecords : List Record → ℕ × List Record
-clearRecords rs = cond (wrongCount (length rs)) (6, rs) (0, replicate (length rs) vacant)
+clearRecords rs = clearing (wrongCount (length rs)) rs (replicate (length rs) unusedRecord)
 
--- a report of a cookie's time
 abbrev pub reportRefusal : List Record → ℕ → ℕ → ℕ
 reportRefusal rs c t = refusedReport (wrongRecords rs) (usedOf rs) c t
 
 unfoldable pub reportRecords : List Record → ℕ → ℕ → ℕ × List Record
-reportRecords rs c t = cond (eqb (reportRefusal rs c t) 0) (0, reported c t rs) (reportRefusal rs c t, rs)
+reportRecords rs c t = unlessRefused (reportRefusal rs c t) rs (reported c t rs)
 
 -- the record at a place leaves: those after it move up by one, and the last is unused; past the end none leaves
 unfoldable pub leaveRecords : List Record → ℕ → List Record
-leaveRecords rs at = take at rs ++ drop (at + 1) (rs ++ (vacant ∷ []))
+leaveRecords rs at = take at rs ++ drop (at + 1) (rs ++ (unusedRecord ∷ []))
 
 -- the first record with cookie 0 gets a cookie
-unfoldable pub seated : ℕ → List Record → List Record
-seated c [] = []
-seated c (r ∷ rs) = cond (eqb (r .cookie) 0) (record { cookie = c; time = r .time } ∷ rs) (r ∷ seated c rs)
+unfoldable pub withCookieAtFree : ℕ → List Record → List Record
+withCookieAtFree c [] = []
+withCookieAtFree c (r ∷ rs) = cond (eqb (r .cookie) 0) (record { cookie = c; time = r .time } ∷ rs) (r ∷ withCookieAtFree c rs)
 
 -- a cookie joins the end: where no record has cookie 0, the oldest leaves first
 unfoldable pub joinRecords : List Record → ℕ → List Record
-joinRecords rs c = seated c (cond (held 0 rs) rs (leaveRecords rs 0))
+joinRecords rs c = withCookieAtFree c (cond (held 0 rs) rs (leaveRecords rs 0))

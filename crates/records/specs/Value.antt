@@ -5,7 +5,7 @@ use lib.Dec.{eqb, ltb}
 use Rattle.records.specs.declared.Record.{Record as Slot}
 use Rattle.records.specs.declared.value.Seen.{Seen}
 use Rattle.records.specs.declared.value.Report.{Report}
-use Rattle.records.specs.declared.value.Seat.{Seat}
+use Rattle.records.specs.declared.value.JoinPlace.{JoinPlace}
 
 -- one record more is seen; `again` where a later one has its cookie too
 abbrev pub seenAfter : Seen → Slot → (again : Bool) → Seen
@@ -25,9 +25,9 @@ abbrev pub absentRefusal : (wrong : Bool) → ℕ → ℕ
 absentRefusal wrong t = cond (wrong || eqb t 0) 6 12
 
 -- the first record with cookie 0, where there is one; else the last, and the first leaves
-abbrev pub seatBy : (one : Bool) (free n : ℕ) → Seat
-seatBy true free n = record { leaving = n; at = free }
-seatBy false free n = record { leaving = 0; at = n - 1 }
+abbrev pub joinPlaceBy : (one : Bool) (free n : ℕ) → JoinPlace
+joinPlaceBy true free n = record { leaving = n; at = free }
+joinPlaceBy false free n = record { leaving = 0; at = n - 1 }
 
-abbrev pub seatFor : (free n : ℕ) → Seat
-seatFor free n = seatBy (ltb free n) free n
+abbrev pub joinPlaceFor : (free n : ℕ) → JoinPlace
+joinPlaceFor free n = joinPlaceBy (ltb free n) free n

@@ -7,7 +7,7 @@ ghost use mathlib.Core.Path.{_≡_};
 ghost use Prim.Native.Nat.{_+_};
 ghost use lib.ListN.{drop, getD};
 ghost use Rattle.store_rules.specs.Place.{indexOf};
-ghost use Rattle.records.specs.Records.{recordsIn, vacant, wrongRecords, clearRecords, reportRecords, leaveRecords, joinRecords};
+ghost use Rattle.records.specs.Records.{recordsIn, unusedRecord, wrongRecords, clearRecords, reportRecords, leaveRecords, joinRecords};
 
 // An unused record has cookie 0 and time 0; a used one has time 0 until it is reported.
 pub struct Record {
@@ -37,7 +37,7 @@ pub fn find(records: &[Record], from: usize, cookie: ServerCookie) -> usize
 
 // The transmit time of the record at a place; 0 past the end.
 pub fn time(records: &[Record], at: usize) -> u64
-    ensures { λ r. ⌜ r ≡ getD (recordsIn (now (records .entry))) at vacant .time ⌝ }
+    ensures { λ r. ⌜ r ≡ getD (recordsIn (now (records .entry))) at unusedRecord .time ⌝ }
 {
     if at < records.len() {
         return records[at].time;
@@ -117,9 +117,9 @@ pub fn join(records: &mut [Record], cookie: ServerCookie)
 {
     let n = records.len();
     let free = find(records, 0, ServerCookie(0));
-    let seat = value::seat_for(free, n);
-    leave(records, seat.leaving);
-    let at = seat.at;
+    let place = value::join_place_for(free, n);
+    leave(records, place.leaving);
+    let at = place.at;
     if at < n {
         records[at] = value::with_cookie(records[at], cookie);
     }

@@ -3,7 +3,7 @@ use crate::Record;
 use header::ServerCookie;
 ghost use mathlib.Core.Path.{_≡_};
 ghost use Rattle.records.specs.Records.{wrongCount};
-ghost use Rattle.records.specs.Value.{seenAfter, reportedOne, absentRefusal, seatFor};
+ghost use Rattle.records.specs.Value.{seenAfter, reportedOne, absentRefusal, joinPlaceFor};
 
 // A row is 1 to 64 records.
 pub(crate) fn wrong_count(n: usize) -> bool
@@ -72,23 +72,23 @@ pub(crate) fn absent(wrong: bool, time: u64) -> u8
 }
 
 // Where a cookie is to stand, and which record leaves for it; past the end, none.
-pub struct Seat {
+pub struct JoinPlace {
     pub leaving: usize,
     pub at: usize,
 }
 
 // `free` is the place of the first record with cookie 0 among n, or n.
-pub(crate) fn seat_for(free: usize, n: usize) -> Seat
-    ensures { λ r. ⌜ r ≡ seatFor free n ⌝ }
+pub(crate) fn join_place_for(free: usize, n: usize) -> JoinPlace
+    ensures { λ r. ⌜ r ≡ joinPlaceFor free n ⌝ }
 {
     if free < n {
-        return Seat {
+        return JoinPlace {
             leaving: n,
             at: free,
         };
     }
     let last = if n == 0 { 0 } else { n - 1 };
-    Seat {
+    JoinPlace {
         leaving: 0,
         at: last,
     }

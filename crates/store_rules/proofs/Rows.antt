@@ -9,6 +9,7 @@ use borrow.Author.Tests.{lt-ltb, eqb-true}
 use lib.Dec.{eqb, ltb, leb·suc-suc}
 use lib.ListN.{length, replicate}
 use Rattle.store_rules.specs.Row.{Record, held, timeOf, reported, without}
+pub use Rattle.store_rules.specs.Row.{unusedRecord}
 use Rattle.store_rules.specs.Place.{indexOf}
 
 -- ---- two tests, both of which fail
@@ -34,9 +35,6 @@ SoundRow (r ∷ row) = SoundRecord r row × SoundRow row
 -- the same record before others that lack its cookie too
 pub sound-before : {r : Record} {rs rs′ : List Record} → SoundRecord r rs → held (r .cookie) rs′ ≡ false → SoundRecord r rs′
 sound-before g e = record { used = g .used; cookie = g .cookie; time = g .time; once = e }
-
-abbrev pub unusedRecord : Record
-unusedRecord = record { cookie = 0; time = 0 }
 
 abbrev pub unusedRow : ℕ → List Record
 unusedRow k = replicate k unusedRecord

@@ -63,6 +63,9 @@ recordsOf s = recordsFrom (sizeOf s) s 0
 abbrev pub unused : Record → Bool
 unused r = eqb (r .cookie) 0 && eqb (r .time) 0
 
+abbrev pub unusedRecord : Record
+unusedRecord = record { cookie = 0; time = 0 }
+
 unfoldable pub allUnused : List Record → Bool
 allUnused [] = true
 allUnused (r ∷ rs) = unused r && allUnused rs
@@ -84,13 +87,19 @@ soundRecords (r ∷ rs) = cond (unused r) (allUnused rs) (not (eqb (r .cookie) 0
 abbrev pub wrongSize : List ℕ → Bool
 wrongSize s = ltb (length s) 16 || ltb 1024 (length s) || not (eqb (length s % 16) 0)
 
--- the store part of refusal 6
-unfoldable pub wrongStore : List ℕ → Bool
-wrongStore s = wrongSize s || not (soundRecords (recordsOf s))
+-- the store part of refusal 6: the size, and the records
+abbrev pub wrongRow : (size : Bool) → List Record → Bool
+wrongRow size rs = size || not (soundRecords rs)
 
--- clearing checks the size only: the refusal, and the store after it
+unfoldable pub wrongStore : List ℕ → Bool
+wrongStore s = wrongRow (wrongSize s) (recordsOf s)
+
+-- clearing checks the size only: the refusal, and the store after it, whatever holds the row
+abbrev pub clearing : {S : Type 0} → (size : Bool) (before after : S) → ℕ × S
+clearing size before after = cond size (6, before) (0, after)
+
 unfoldable pub cleared : List ℕ → ℕ × List ℕ
-cleared s = cond (wrongSize s) (6, s) (0, storeOctets (sizeOf s) [])
+cleared s = clearing (wrongSize s) s (storeOctets (sizeOf s) [])
 
 -- a report of a cookie's time: 6 for the store or a time 0; 12 where the cookie is not in the row or has its time
 abbrev pub refusedReport : (wrong : Bool) (row : List Record) (c t : ℕ) → ℕ
@@ -102,7 +111,9 @@ refusedReport wrong row c t =
 abbrev pub reportRefusal : List ℕ → ℕ → ℕ → ℕ
 reportRefusal s c t = refusedReport (wrongStore s) (rowOf s) c t
 
+-- a refusal leaves what was there, whatever holds the row
+abbrev pub unlessRefused : {S : Type 0} → (refusal : ℕ) (before after : S) → ℕ × S
+unlessRefused refusal before after = cond (eqb refusal 0) (0, after) (refusal, before)
+
 unfoldable pub reporting : List ℕ → ℕ → ℕ → ℕ × List ℕ
-reporting s c t =
-    cond (eqb (reportRefusal s c t) 0) (0, storeOctets (sizeOf s) (reported c t (rowOf s)))
-    (reportRefusal s c t, s)
+reporting s c t = unlessRefused (reportRefusal s c t) s (storeOctets (sizeOf s) (reported c t (rowOf s)))

@@ -42,7 +42,7 @@ use denote.Triple.Statement.{Contract, Triple}
 use denote.Triple.Table.{entered, cited}
 use denote.Triple.Walked.{says, Stays, stay-slice, walkOf, goes-slice, Walks, ends-at, walked, walk-meets}
 use Rattle.header.proofs.ServerCookie.Laws as Ck′
-use Rattle.records.specs.Records.{recordsIn, vacant, wrongCount, clearRecords}
+use Rattle.records.specs.Records.{recordsIn, unusedRecord, wrongCount, clearRecords}
 use Rattle.records.specs.declared.Record.{Record as Slot}
 use Rattle.records.proofs.Record as T
 use Rattle.records.proofs.Record.Laws as T′
@@ -96,7 +96,7 @@ module _ {M : Type 1} (𝓤 : URA M) (H : Heap 𝓤) (A : Atoms 𝓤) (W : Given
     pub l : List Slot
     pub size : length l ≡ n
     pub high : i ≤ n
-    pub cleared : recordsIn l ≡ replicate i vacant ++ dropped i (recordsIn ys)
+    pub cleared : recordsIn l ≡ replicate i unusedRecord ++ dropped i (recordsIn ys)
 
   abbrev Nearer : Upto → Upto → Type 0
   Nearer u v = n - u .i < n - v .i

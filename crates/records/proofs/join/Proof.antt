@@ -1,4 +1,4 @@
--- `join` meets its contract: a walk of its code by hand, with calls. The slice is lent to `find` and to `leave`; then the borrow is opened, the record at the seat is copied, `with_cookie` is called on the copy, what it answers is stored
+-- `join` meets its contract: a walk of its code by hand, with calls. The slice is lent to `find` and to `leave`; then the borrow is opened, the record at the place is copied, `with_cookie` is called on the copy, what it answers is stored
 -- in the record's place, and the borrow is closed.
 -- Assumes nothing.
 use mathlib.Core.Path.{_≡_, refl, sym, ap, _∙_}
@@ -44,15 +44,15 @@ use Rattle.header.proofs.ServerCookie as Ck
 use Rattle.header.proofs.ServerCookie.Laws as Ck′
 use Rattle.store_rules.specs.Row.{Record}
 use Rattle.records.specs.Records.{recordOf, recordsIn, leaveRecords, joinRecords}
-use Rattle.records.specs.Value.{seatFor}
+use Rattle.records.specs.Value.{joinPlaceFor}
 use Rattle.records.specs.declared.Record.{Record as Slot}
-use Rattle.records.specs.declared.value.Seat.{Seat}
+use Rattle.records.specs.declared.value.JoinPlace.{JoinPlace}
 use Rattle.records.proofs.Record as T
 use Rattle.records.proofs.Record.Laws as T′
-use Rattle.records.proofs.value.Seat as S
-use Rattle.records.proofs.value.Seat.Laws as S′
+use Rattle.records.proofs.value.JoinPlace as S
+use Rattle.records.proofs.value.JoinPlace.Laws as S′
 use Rattle.records.proofs.Slots.{none, length-in, get-in, set-in, placeFrom}
-use Rattle.records.proofs.Joining.{withCookie, join-seated, join-none}
+use Rattle.records.proofs.Joining.{withCookie, join-placed, join-none}
 use Rattle.records.proofs.Walk.{ifs, word, lent, fits-place, at-list, Has, held-owns, IsCookie, typed, takes, puts-it, Asks, calls-plain, plain-pre}
 use Rattle.records.proofs.Finding.{Finds, calls-find}
 use Rattle.records.proofs.Lending.{shares-out, shares-back}
@@ -63,10 +63,10 @@ use Rattle.records.proofs.find.Met as find-thm
 use Rattle.records.proofs.leave.Symbol as leave-def
 use Rattle.records.proofs.leave.Symbol.{name as #leave}
 use Rattle.records.proofs.leave.Met as leave-thm
-use Rattle.records.proofs.value.seat_for as seat-for
-use Rattle.records.proofs.value.seat_for.Symbol as seat-for-def
-use Rattle.records.proofs.value.seat_for.Symbol.{name as #seat-for}
-use Rattle.records.proofs.value.seat_for.Met as seat-for-thm
+use Rattle.records.proofs.value.join_place_for as join-place-for
+use Rattle.records.proofs.value.join_place_for.Symbol as join-place-for-def
+use Rattle.records.proofs.value.join_place_for.Symbol.{name as #join-place-for}
+use Rattle.records.proofs.value.join_place_for.Met as join-place-for-thm
 use Rattle.records.proofs.value.with_cookie as with-cookie
 use Rattle.records.proofs.value.with_cookie.Symbol as with-cookie-def
 use Rattle.records.proofs.value.with_cookie.Symbol.{name as #with-cookie}
@@ -93,8 +93,8 @@ is-no-cookie = LL.owes Ck.the-type Ck′.the-laws no-cookie ((refl, lit< tt), tt
 
 module _ {M : Type 1} (𝓤 : URA M) (H : Heap 𝓤) (A : Atoms 𝓤) (mem : Memory → SProp 𝓤) (run : Routine → Fun 𝓤) where
   -- the contracts that the proof cites
-  abbrev Seats : Contract 𝓤
-  Seats = Asks 𝓤 H A seat-for.ended (seat-for.clauses 𝓤 H A mem run)
+  abbrev Places : Contract 𝓤
+  Places = Asks 𝓤 H A join-place-for.ended (join-place-for.clauses 𝓤 H A mem run)
 
   abbrev Names : Contract 𝓤
   Names = Asks 𝓤 H A with-cookie.ended (with-cookie.clauses 𝓤 H A mem run)
@@ -103,7 +103,7 @@ module _ {M : Type 1} (𝓤 : URA M) (H : Heap 𝓤) (A : Atoms 𝓤) (mem : Mem
   pub record Known (C : Calls 𝓤 H) : Type 1 where
     pub knows-find : Triple 𝓤 (C #find) (Finds 𝓤 H A mem run)
     pub knows-leave : Triple 𝓤 (C #leave) (Leaves 𝓤 H A mem run)
-    pub knows-seat : Triple 𝓤 (C #seat-for) Seats
+    pub knows-place : Triple 𝓤 (C #join-place-for) Places
     pub knows-with : Triple 𝓤 (C #with-cookie) Names
 
 module _ {M : Type 1} (𝓤 : URA M) (H : Heap 𝓤) (A : Atoms 𝓤) (W : Given 𝓤 H A) (mem : Memory → SProp 𝓤) (run : Routine → Fun 𝓤) (κ : Lft) (q : Share) (b o : ℕ) (γ : GName) (ys : List Slot) (ck : ServerCookie) (gn : Room T.the-row (length ys)) (gk : IsCookie ck) where
@@ -127,7 +127,7 @@ module _ {M : Type 1} (𝓤 : URA M) (H : Heap 𝓤) (A : Atoms 𝓤) (W : Given
       frame ! $ held-owns ! κ b o γ l n e gn $
       nothing ! $ owned ! Ck.the-row (Is Ck.the-row) (LL.makes Ck.the-type Ck′.the-plain 𝓤 H A) ck (Ck′.lowered ck ∷ []) gk $ fjoin ! $ move ! (1 ∷ 0 ∷ []) $ fjoin ! $ frame ! $ feqI ! (List Val) (vunit ∷ []) (vunit ∷ []) refl $ done !
 
-  module _ (𝓣 : Tables 𝓤 H) (known : Known 𝓤 H A mem run (𝓣 .C)) (l₀ l₁ l₂ l₃ l₄ l₅ l₆ l₇ l₈ l₉ l₁₀ l₁₁ l₁₂ l₁₃ l₁₄ l₁₅ l₁₆ l₁₇ l₁₈ l₁₉ : ℕ) (free : ℕ) (seat : Seat) where
+  module _ (𝓣 : Tables 𝓤 H) (known : Known 𝓤 H A mem run (𝓣 .C)) (l₀ l₁ l₂ l₃ l₄ l₅ l₆ l₇ l₈ l₉ l₁₀ l₁₁ l₁₂ l₁₃ l₁₄ l₁₅ l₁₆ l₁₇ l₁₈ l₁₉ : ℕ) (free : ℕ) (place : JoinPlace) where
     abbrev Ca : Calls 𝓤 H
     Ca = 𝓣 .C
 
@@ -137,12 +137,12 @@ module _ {M : Type 1} (𝓤 : URA M) (H : Heap 𝓤) (A : Atoms 𝓤) (W : Given
     abbrev En : Env 𝓤 H
     En = (tyUnit, l₀) ∷ (lent, l₁) ∷ (Ck′.mir, l₂) ∷ (word, l₃) ∷ (word, l₄) ∷ (S′.mir, l₅) ∷ (word, l₆) ∷ (pointer imm, l₇) ∷ (sliceTy (pointer imm), l₈) ∷ (Ck′.mir, l₉) ∷ (tyUnit, l₁₀) ∷ (pointer mut, l₁₁) ∷ (sliceTy (pointer mut), l₁₂) ∷ (tyBool, l₁₃) ∷ (T′.mir, l₁₄) ∷ (word, l₁₅) ∷ (tyPtr, l₁₆) ∷ (T′.mir, l₁₇) ∷ (word, l₁₈) ∷ (tyPtr, l₁₉) ∷ []
 
-    -- [obs; the borrow; the token; _19; …; down to _0; …] at the list l, when the seat is compared with the end
+    -- [obs; the borrow; the token; _19; …; down to _0; …] at the list l, when the place is compared with the end
     abbrev At : List Slot → List (Item 𝓤)
     At l = Has 𝓤 κ q b o γ l (‵ (froom tyPtr l₁₉ 0) ∷ ‵ (fdies tyPtr l₁₉) ∷ ‵ (froom word l₁₈ 0) ∷ ‵ (fdies word l₁₈) ∷ ‵ (froom T′.mir l₁₇ 0) ∷ ‵ (fdies T′.mir l₁₇) ∷ ‵ (froom tyPtr l₁₆ 0) ∷ ‵ (fdies tyPtr l₁₆)
-        ∷ ‵ (froom word l₁₅ 0) ∷ ‵ (fdies word l₁₅) ∷ ‵ (froom T′.mir l₁₄ 0) ∷ ‵ (fdies T′.mir l₁₄) ∷ ‵ (fat fullShare tyBool l₁₃ 0 (vbool (ltb (seat .at) n))) ∷ ‵ (fdies tyBool l₁₃) ∷ ‵ (fat fullShare (sliceTy (pointer mut)) l₁₂ 0 (sliceVal (b, o) n)) ∷ ‵ (fdies (sliceTy (pointer mut)) l₁₂)
+        ∷ ‵ (froom word l₁₅ 0) ∷ ‵ (fdies word l₁₅) ∷ ‵ (froom T′.mir l₁₄ 0) ∷ ‵ (fdies T′.mir l₁₄) ∷ ‵ (fat fullShare tyBool l₁₃ 0 (vbool (ltb (place .at) n))) ∷ ‵ (fdies tyBool l₁₃) ∷ ‵ (fat fullShare (sliceTy (pointer mut)) l₁₂ 0 (sliceVal (b, o) n)) ∷ ‵ (fdies (sliceTy (pointer mut)) l₁₂)
         ∷ ‵ (fat fullShare (pointer mut) l₁₁ 0 (vptr b o)) ∷ ‵ (fdies (pointer mut) l₁₁) ∷ ‵ (fat fullShare tyUnit l₁₀ 0 vunit) ∷ ‵ (fdies tyUnit l₁₀) ∷ ‵ (fat fullShare Ck′.mir l₉ 0 (Ck′.lowered no-cookie)) ∷ ‵ (fdies Ck′.mir l₉) ∷ ‵ (fat fullShare (sliceTy (pointer imm)) l₈ 0 (sliceVal (b, o) n)) ∷ ‵ (fdies (sliceTy (pointer imm)) l₈)
-        ∷ ‵ (fat fullShare (pointer imm) l₇ 0 (vptr b o)) ∷ ‵ (fdies (pointer imm) l₇) ∷ ‵ (fat fullShare word l₆ 0 (vint w64 (seat .at))) ∷ ‵ (fdies word l₆) ∷ ‵ (fat fullShare S′.mir l₅ 0 (S′.lowered seat)) ∷ ‵ (fdies S′.mir l₅) ∷ ‵ (fat fullShare word l₄ 0 (vint w64 free)) ∷ ‵ (fdies word l₄)
+        ∷ ‵ (fat fullShare (pointer imm) l₇ 0 (vptr b o)) ∷ ‵ (fdies (pointer imm) l₇) ∷ ‵ (fat fullShare word l₆ 0 (vint w64 (place .at))) ∷ ‵ (fdies word l₆) ∷ ‵ (fat fullShare S′.mir l₅ 0 (S′.lowered place)) ∷ ‵ (fdies S′.mir l₅) ∷ ‵ (fat fullShare word l₄ 0 (vint w64 free)) ∷ ‵ (fdies word l₄)
         ∷ ‵ (fat fullShare word l₃ 0 (vint w64 n)) ∷ ‵ (fdies word l₃) ∷ ‵ (fat fullShare Ck′.mir l₂ 0 (Ck′.lowered ck)) ∷ ‵ (fdies Ck′.mir l₂) ∷ ‵ (fat fullShare lent l₁ 0 (sliceVal (b, o) n)) ∷ ‵ (fdies lent l₁) ∷ ‵ (froom tyUnit l₀ 0) ∷ ‵ (fdies tyUnit l₀) ∷ [])
 
     ends : (l : List Slot) → length l ≡ n → recordsIn l ≡ joinRecords (recordsIn ys) (ck .0) → Sq W (At l) (runs Ca Λ En pieces.t-13 (atRet En Post))
@@ -152,13 +152,13 @@ module _ {M : Type 1} (𝓤 : URA M) (H : Heap 𝓤) (A : Atoms 𝓤) (W : Given
         move ! (41 ∷ 42 ∷ []) $ free1 ! $ move ! (39 ∷ 40 ∷ []) $ free1 ! $ move ! (37 ∷ 38 ∷ []) $ free1 ! $ move ! (35 ∷ 36 ∷ []) $ free1 ! $ move ! (33 ∷ 34 ∷ []) $ free1 ! $ move ! (31 ∷ 32 ∷ []) $ free1 ! $ move ! (29 ∷ 30 ∷ []) $ free1 ! $ move ! (27 ∷ 28 ∷ []) $ free1 ! $ move ! (25 ∷ 26 ∷ []) $ free1 ! $ move ! (23 ∷ 24 ∷ []) $ free1 ! $ move ! (21 ∷ 22 ∷ []) $ free1 ! $ move ! (19 ∷ 20 ∷ []) $ free1 ! $ move ! (17 ∷ 18 ∷ []) $ free1 ! $ move ! (15 ∷ 16 ∷ []) $ free1 ! $ move ! (13 ∷ 14 ∷ []) $ free1 ! $ move ! (11 ∷ 12 ∷ []) $ free1 ! $ move ! (9 ∷ 10 ∷ []) $ free1 ! $ move ! (7 ∷ 8 ∷ []) $ free1 ! $ move ! (5 ∷ 6 ∷ []) $ free1 ! $ move ! (3 ∷ 4 ∷ []) $ free1 ! $ free0 ! $
         by ! (exits l e said)
 
-    takes-seat : (l : List Slot) → length l ≡ n → recordsIn l ≡ leaveRecords (recordsIn ys) (seat .leaving) → free ≡ placeFrom (recordsIn ys) 0 0 → seat ≡ seatFor free n → Sq W (At l) (runs Ca Λ En pieces.t-12 (atRet En Post))
-    takes-seat l e left ef es =
+    takes-place : (l : List Slot) → length l ≡ n → recordsIn l ≡ leaveRecords (recordsIn ys) (place .leaving) → free ≡ placeFrom (recordsIn ys) 0 0 → place ≡ joinPlaceFor free n → Sq W (At l) (runs Ca Λ En pieces.t-12 (atRet En Post))
+    takes-place l e left ef es =
         ifs ! (load ! (from ! (stop !)) (look ! 15 refl)) (λ less.
         assigns ! (bin ! (load ! (from ! (stop !)) (look ! 29 refl)) (lit ! tt) (record { fits = place-fits less })) (from ! (stop !)) (init ! 11 refl (tt, record { fits = place-fits less })) $
         assigns ! (bin ! (load ! (from ! (fld ! refl (stop !))) (look-in ! 39 (sub ! 0 refl (whole !)))) (load ! (from ! (stop !)) (look ! 11 refl)) tt) (from ! (stop !)) (init ! 9 refl (tt, tt)) $
-        rewrite ! 9 (λ (p : ℕ). ‵ (fat fullShare tyPtr l₁₆ 0 (vptr b p))) (sym (place-is 16 o (seat .at))) refl $
-        opens-slice ! tt T.the-row l b o $ takes ! fullShare l (seat .at) b o (inside less) (λ g.
+        rewrite ! 9 (λ (p : ℕ). ‵ (fat fullShare tyPtr l₁₆ 0 (vptr b p))) (sym (place-is 16 o (place .at))) refl $
+        opens-slice ! tt T.the-row l b o $ takes ! fullShare l (place .at) b o (inside less) (λ g.
         -- [records[at]; the others; the open borrow; obs; auth; _19; …; _18; …]
         assigns ! (of-opd ! (load ! (from ! (hop ! (look ! 11 refl) (stop !))) (look-raw ! 0 refl))) (from ! (stop !)) (init ! 9 refl (typed W elem g)) $
         calls-plain ! (fmOf 𝓤 H (W .laws) 𝓣) with-cookie.ended (with-cookie.clauses 𝓤 H A mem run) (known .knows-with) given T′.lowered (LL.tells T.the-type T′.the-laws) (λ s. s ≡ named-one) (λ r e. refl)
@@ -167,38 +167,38 @@ module _ {M : Type 1} (𝓤 : URA M) (H : Heap 𝓤) (A : Atoms 𝓤) (W : Given
         land ! (from ! (stop !)) (init ! 15 refl (typed W s gs)) $
         assigns ! (bin ! (load ! (from ! (stop !)) (look ! 31 refl)) (lit ! tt) (record { fits = place-fits less })) (from ! (stop !)) (init ! 7 refl (tt, record { fits = place-fits less })) $
         assigns ! (bin ! (load ! (from ! (fld ! refl (stop !))) (look-in ! 41 (sub ! 0 refl (whole !)))) (load ! (from ! (stop !)) (look ! 7 refl)) tt) (from ! (stop !)) (init ! 5 refl (tt, tt)) $
-        rewrite ! 5 (λ (p : ℕ). ‵ (fat fullShare tyPtr l₁₉ 0 (vptr b p))) (sym (place-is 16 o (seat .at))) refl $
+        rewrite ! 5 (λ (p : ℕ). ‵ (fat fullShare tyPtr l₁₉ 0 (vptr b p))) (sym (place-is 16 o (place .at))) refl $
         assigns-last ! (of-opd ! (load ! (from ! (stop !)) (look ! 15 refl))) (from ! (hop ! (look ! 5 refl) (stop !))) (store-raw ! 0 refl (typed W s gs)) $ exec ! Ca Λ En pieces.t-13 (atRet En Post) $
-        puts-it ! l (seat .at) b o s (inside less) gs $ closes-slice ! tt T.the-row l (set l (seat .at) s) (length-set l (seat .at) s) b o $
+        puts-it ! l (place .at) b o s (inside less) gs $ closes-slice ! tt T.the-row l (set l (place .at) s) (length-set l (place .at) s) b o $
         -- [obs; the borrow; the token; _19; …; _18; …]
-        forget ! 3 refl $ forget ! 5 refl $ forget ! 7 refl $ forget ! 9 refl $ forget ! 11 refl $ forget ! 13 refl $ ends (set l (seat .at) s) (length-set l (seat .at) s ∙ e) (seated less s e₁))))
-        (λ over. ends l e (left ∙ rw at-seat (join-none (recordsIn ys) (ck .0) free ef (rw (← at-seat, length-in ys) (nltb→le (seat .at) n over)))))
+        forget ! 3 refl $ forget ! 5 refl $ forget ! 7 refl $ forget ! 9 refl $ forget ! 11 refl $ forget ! 13 refl $ ends (set l (place .at) s) (length-set l (place .at) s ∙ e) (placed less s e₁))))
+        (λ over. ends l e (left ∙ rw at-place (join-none (recordsIn ys) (ck .0) free ef (rw (← at-place, length-in ys) (nltb→le (place .at) n over)))))
       where
         elem : Slot
-        elem = getD l (seat .at) none
+        elem = getD l (place .at) none
 
         named-one : Slot
-        named-one = record { cookie = ck; time = getD l (seat .at) none .time }
+        named-one = record { cookie = ck; time = getD l (place .at) none .time }
 
         given : Names 𝓤 H A mem run .Ghost
         given = ((tt, tt, tt, (elem, (ck, tt)), (T′.lowered elem ∷ [], (Ck′.lowered ck ∷ [], tt))), tt)
 
-        at-seat : seat ≡ seatFor free (length (recordsIn ys))
-        at-seat = rw (length-in ys) es
+        at-place : place ≡ joinPlaceFor free (length (recordsIn ys))
+        at-place = rw (length-in ys) es
 
-        inside : T (ltb (seat .at) n) → seat .at < length l
-        inside less = rw e (ltb→lt (seat .at) n less)
+        inside : T (ltb (place .at) n) → place .at < length l
+        inside less = rw e (ltb→lt (place .at) n less)
 
-        place-fits : T (ltb (seat .at) n) → seat .at * 16 < 2 ^ 64
-        place-fits less = fits-place n (seat .at) gn (ltb→lt (seat .at) n less)
+        place-fits : T (ltb (place .at) n) → place .at * 16 < 2 ^ 64
+        place-fits less = fits-place n (place .at) gn (ltb→lt (place .at) n less)
 
-        seated : T (ltb (seat .at) n) → (s : Slot) → s ≡ named-one → recordsIn (set l (seat .at) s) ≡ joinRecords (recordsIn ys) (ck .0)
-        seated less s e₁ =
-            set-in l (seat .at) s
-            ∙ ap (λ (r : Slot). set (recordsIn l) (seat .at) (recordOf r)) e₁
-            ∙ ap (λ (t : ℕ). set (recordsIn l) (seat .at) (record { cookie = ck .0; time = t })) (ap (λ (r : Record). r .time) (sym (get-in l (seat .at))))
-            ∙ ap (λ (k : List Record). withCookie k (seat .at) (ck .0)) left
-            ∙ rw at-seat (join-seated (recordsIn ys) (ck .0) free ef (rw (← at-seat, length-in ys) (ltb→lt (seat .at) n less)))
+        placed : T (ltb (place .at) n) → (s : Slot) → s ≡ named-one → recordsIn (set l (place .at) s) ≡ joinRecords (recordsIn ys) (ck .0)
+        placed less s e₁ =
+            set-in l (place .at) s
+            ∙ ap (λ (r : Slot). set (recordsIn l) (place .at) (recordOf r)) e₁
+            ∙ ap (λ (t : ℕ). set (recordsIn l) (place .at) (record { cookie = ck .0; time = t })) (ap (λ (r : Record). r .time) (sym (get-in l (place .at))))
+            ∙ ap (λ (k : List Record). withCookie k (place .at) (ck .0)) left
+            ∙ rw at-place (join-placed (recordsIn ys) (ck .0) free ef (rw (← at-place, length-in ys) (ltb→lt (place .at) n less)))
 
   walk : (𝓣 : Tables 𝓤 H) → Known 𝓤 H A mem run (𝓣 .C) → ent 𝓤 (onEntry 𝓤 H A join.signature (κ, tt) (q, tt) x at) (WpFn 𝓤 H (𝓣 .C) (𝓣 .Λ) code.function (sliceVal (b, o) n ∷ Ck′.lowered ck ∷ []) Post)
   walk 𝓣 known =
@@ -217,7 +217,7 @@ module _ {M : Type 1} (𝓤 : URA M) (H : Heap 𝓤) (A : Atoms 𝓤) (W : Given
       calls-find ! (fmOf 𝓤 H (W .laws) 𝓣) mem run (known .knows-find) (α ∷ []) fullShare b o γ₁ ys 0 no-cookie (lit< tt) is-no-cookie
       (and-then ! (load ! (from ! (stop !)) (look ! 24 refl)) (and-then ! (lit ! tt) (and-then ! (load ! (from ! (stop !)) (look ! 22 refl)) (no-more !)))) (λ free gf ef.
       shares-back ! tt ys b o α $ land ! (from ! (stop !)) (init ! 33 refl (tt, record { fits = gf })) $
-      calls-plain ! (fmOf 𝓤 H (W .laws) 𝓣) seat-for.ended (seat-for.clauses 𝓤 H A mem run) (known .knows-seat) (given free) S′.lowered (LL.tells S.the-type S′.the-laws) (λ s. s ≡ seatFor free n) (λ r e. refl)
+      calls-plain ! (fmOf 𝓤 H (W .laws) 𝓣) join-place-for.ended (join-place-for.clauses 𝓤 H A mem run) (known .knows-place) (given free) S′.lowered (LL.tells S.the-type S′.the-laws) (λ s. s ≡ joinPlaceFor free n) (λ r e. refl)
       (plain-pre 𝓤 H A (usize ∷ usize ∷ []) (uint-makes 𝓤 H A W w64, (uint-makes 𝓤 H A W w64, tt)) (given free .0 .3) (given free .0 .4) ((refl, gf), ((refl, gn .0), tt)))
       (and-then ! (load ! (from ! (stop !)) (look ! 34 refl)) (and-then ! (load ! (from ! (stop !)) (look ! 36 refl)) (no-more !))) (λ s gs es.
       land ! (from ! (stop !)) (init ! 31 refl (LL.lawful S.the-type S′.the-laws 𝓤 H A W .typed s (S′.lowered s ∷ []) gs .0)) $
@@ -228,9 +228,9 @@ module _ {M : Type 1} (𝓤 : URA M) (H : Heap 𝓤) (A : Atoms 𝓤) (W : Given
       land ! (from ! (stop !)) (init ! 21 refl (tt, tt)) $
       assigns ! (of-opd ! (load ! (from ! (fld ! refl (stop !))) (look-in ! 31 (sub ! 1 refl (whole !))))) (from ! (stop !)) (init ! 29 refl (tt, record { fits = LL.owed S.the-type S′.the-laws s (S′.lowered s ∷ []) gs .1 .0 .1 })) $
       assigns ! (bin ! (load ! (from ! (stop !)) (look ! 29 refl)) (load ! (from ! (stop !)) (look ! 35 refl)) tt) (from ! (stop !)) (init ! 15 refl (tt, tt)) $
-      takes-seat 𝓣 known l₀ l₁ l₂ l₃ l₄ l₅ l₆ l₇ l₈ l₉ l₁₀ l₁₁ l₁₂ l₁₃ l₁₄ l₁₅ l₁₆ l₁₇ l₁₈ l₁₉ free s l e left ef es))))))))))))))))))))))))
+      takes-place 𝓣 known l₀ l₁ l₂ l₃ l₄ l₅ l₆ l₇ l₈ l₉ l₁₀ l₁₁ l₁₂ l₁₃ l₁₄ l₁₅ l₁₆ l₁₇ l₁₈ l₁₉ free s l e left ef es))))))))))))))))))))))))
     where
-      given : ℕ → Seats 𝓤 H A mem run .Ghost
+      given : ℕ → Places 𝓤 H A mem run .Ghost
       given free = ((tt, tt, tt, (free, (n, tt)), (vint w64 free ∷ [], (vint w64 n ∷ [], tt))), tt)
 
 module _ {M : Type 1} (𝓤 : URA M) (H : Heap 𝓤) (A : Atoms 𝓤) (W : Given 𝓤 H A) (mem : Memory → SProp 𝓤) (run : Routine → Fun 𝓤) (𝓣 : Tables 𝓤 H) (known : Known 𝓤 H A mem run (𝓣 .C)) where
@@ -252,6 +252,6 @@ join-spec 𝓤 H 𝓜 𝓖 𝓡 =
     (join-meets 𝓤 H (𝓖 .A) (givenOf 𝓤 H 𝓜 𝓖) (𝓜 .mem) (𝓡 .run) (tablesOf 𝓤 H 𝓜 (tables 𝓤 H 𝓜 𝓡 code.env)) (record {
       knows-find = cited 𝓤 H (Finds 𝓤 H (𝓖 .A) (𝓜 .mem) (𝓡 .run)) 𝓜 𝓡 code.env #find find-def.routine code.calls-records·find (find-thm.met 𝓤 H 𝓜 𝓖 𝓡);
       knows-leave = cited 𝓤 H (Leaves 𝓤 H (𝓖 .A) (𝓜 .mem) (𝓡 .run)) 𝓜 𝓡 code.env #leave leave-def.routine code.calls-records·leave (leave-thm.met 𝓤 H 𝓜 𝓖 𝓡);
-      knows-seat = cited 𝓤 H (Seats 𝓤 H (𝓖 .A) (𝓜 .mem) (𝓡 .run)) 𝓜 𝓡 code.env #seat-for seat-for-def.routine code.calls-records·value·seat-for (seat-for-thm.met 𝓤 H 𝓜 𝓖 𝓡);
+      knows-place = cited 𝓤 H (Places 𝓤 H (𝓖 .A) (𝓜 .mem) (𝓡 .run)) 𝓜 𝓡 code.env #join-place-for join-place-for-def.routine code.calls-records·value·join-place-for (join-place-for-thm.met 𝓤 H 𝓜 𝓖 𝓡);
       knows-with = cited 𝓤 H (Names 𝓤 H (𝓖 .A) (𝓜 .mem) (𝓡 .run)) 𝓜 𝓡 code.env #with-cookie with-cookie-def.routine code.calls-records·value·with-cookie (with-cookie-thm.met 𝓤 H 𝓜 𝓖 𝓡);
     }))

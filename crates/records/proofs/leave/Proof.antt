@@ -40,7 +40,7 @@ use denote.Triple.Table.{entered}
 use denote.Triple.Walked.{says, Stays, stay-slice, stay-none, walkOf, goes-slice, goes-none, Walks, ends-at, walked, walk-meets}
 use denote.Exit.{yes}
 use Rattle.header.proofs.ServerCookie.Laws as Ck′
-use Rattle.records.specs.Records.{recordOf, recordsIn, vacant, leaveRecords}
+use Rattle.records.specs.Records.{recordOf, recordsIn, unusedRecord, leaveRecords}
 use Rattle.records.specs.declared.Record.{Record as Slot}
 use Rattle.records.proofs.Record as T
 use Rattle.records.proofs.Record.Laws as T′
@@ -90,7 +90,7 @@ module _ {M : Type 1} (𝓤 : URA M) (H : Heap 𝓤) (A : Atoms 𝓤) (W : Given
     pub low : min to n ≤ i
     pub high : i ≤ n
     pub moved : recordsIn l ≡ leaveRecords (recordsIn ys) i
-    pub next : recordOf last ≡ getD (recordsIn ys) i vacant
+    pub next : recordOf last ≡ getD (recordsIn ys) i unusedRecord
 
   abbrev Nearer : Upto → Upto → Type 0
   Nearer u v = u .i < v .i
@@ -206,7 +206,7 @@ module _ {M : Type 1} (𝓤 : URA M) (H : Heap 𝓤) (A : Atoms 𝓤) (W : Given
         low = omega arith;
         high = omega arith;
         moved = sym (leave-past (recordsIn ys) n (omega (arith, length-in ys)));
-        next = sym (List·getD-eq-default (recordsIn ys) vacant {n = n} (omega (arith, length-in ys)));
+        next = sym (List·getD-eq-default (recordsIn ys) unusedRecord {n = n} (omega (arith, length-in ys)));
       }
 
 module _ {M : Type 1} (𝓤 : URA M) (H : Heap 𝓤) (A : Atoms 𝓤) (W : Given 𝓤 H A) (mem : Memory → SProp 𝓤) (run : Routine → Fun 𝓤) (𝓣 : Tables 𝓤 H) where

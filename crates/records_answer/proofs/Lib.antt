@@ -1,0 +1,10 @@
+-- The laws of the answer from a slice of records. Assumes nothing.
+pub mod Fits
+pub mod Ways
+pub mod Answering
+pub mod Runs
+pub mod RowInRecords
+pub mod Stepping
+pub mod Sending
+pub mod Values
+pub mod Deciding

@@ -1,0 +1,95 @@
+// The parts of an answer that do not look at the records.
+use crate::Step;
+use header::Reading;
+use header::ServerCookie;
+use responder_rules::Answered;
+use responder_rules::Server;
+ghost use mathlib.Core.Path.{_≡_};
+ghost use mathlib.Core.Bool.{cond};
+ghost use mathlib.Core.List.{[]};
+ghost use Rattle.header.specs.Header.{headerOf, reading};
+ghost use Rattle.chain.specs.Chain.{soundRefusal};
+ghost use Rattle.responder_rules.specs.Answer.{wrongArguments};
+ghost use Rattle.records_answer.specs.Answer.{outcome};
+ghost use Rattle.records_answer.specs.Sent.{Ready, sentBy};
+
+// The header of the request, or what it or the arguments are refused by: 6, then 1 to 5.
+pub(crate) fn checked(
+    request: &[u8],
+    filter: &[u8],
+    information: &[u8],
+    leap: u8,
+    receive: u64,
+    estimate: u64,
+) -> Reading
+    ensures { λ r. ⌜ r ≡ reading (cond (wrongArguments (now (filter .entry)) (now (information .entry)) leap receive estimate) 6 (soundRefusal (now (request .entry)) 3))
+        (headerOf (now (request .entry))) ⌝ }
+{
+    if (filter.len() != 512)
+        | (information.len() != 4)
+        | (3 < leap)
+        | (receive == 0)
+        | (estimate == 0)
+    {
+        return Reading::Refused(6);
+    }
+    let number = chain::sound(request, 3);
+    if number != 0 {
+        return Reading::Refused(number);
+    }
+    header::read(request, 3)
+}
+
+// What the step returned is the refusal, or the answer is written to the start of `out`.
+pub(crate) fn sent(
+    step: Step,
+    checked: Reading,
+    request: &[u8],
+    receive: u64,
+    estimate: u64,
+    fresh_cookie: ServerCookie,
+    server: Server,
+    filter: &[u8],
+    information: &[u8],
+    out: &mut [u8],
+) -> Answered
+    requires { ⌜ ((step .refusal ≡ 0) → Ready checked (record {
+      request = now request;
+      receive = receive;
+      estimate = estimate;
+      freshCookie = «fresh_cookie» .0;
+      server = server;
+      filter = now filter;
+      information = now information;
+    }) (now out)) ⌝ }
+    ensures { λ r. ⌜ outcome r (now (out .exit)) [] ≡ sentBy (record {
+      request = now (request .entry);
+      receive = receive;
+      estimate = estimate;
+      freshCookie = «fresh_cookie» .0;
+      server = server;
+      filter = now (filter .entry);
+      information = now (information .entry);
+    }) step (now (out .entry)) ⌝ }
+{
+    let number = step.refusal;
+    if number != 0 {
+        return Answered::Refused(number);
+    }
+    let Reading::Fields(asked) = checked else {
+        return Answered::Refused(number);
+    };
+    let n = request.len();
+    let header = answer_header::header_of(
+        server,
+        asked,
+        receive,
+        estimate,
+        fresh_cookie,
+        step.saved,
+    );
+    let part = &mut out[0..n];
+    header::write(header, part);
+    answer_fields::write(request, filter, information, part);
+    Answered::Written(n as u16)
+}

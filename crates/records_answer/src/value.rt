@@ -1,0 +1,100 @@
+// What a step decides, by value.
+use crate::Step;
+use answer_header::wants_interleaved;
+use header::Header;
+use header::Reading;
+use header::ServerCookie;
+ghost use mathlib.Core.Path.{_≡_};
+ghost use Rattle.records_answer.specs.Value.{askedCookie, unchangedPlan, keepingPlan, planFor, planOf};
+
+// What a step returns, and whether the records stay; if not, the place of the record that leaves (past the end, none) before the fresh cookie joins.
+pub struct Plan {
+    pub step: Step,
+    pub unchanged: bool,
+    pub leaving: usize,
+}
+
+// The server cookie of a request; 0 where it is refused.
+pub(crate) fn asked_cookie(request: Reading) -> ServerCookie
+    ensures { λ r. ⌜ r ≡ askedCookie request ⌝ }
+{
+    let Reading::Fields(asked) = request else {
+        return ServerCookie(0);
+    };
+    asked.server_cookie
+}
+
+// The records stay, of which there are n: a refusal, or a basic answer that is not refused.
+fn unchanged(refusal: u8, n: usize) -> Plan
+    ensures { λ r. ⌜ r ≡ unchangedPlan refusal n ⌝ }
+{
+    let step = Step { refusal, saved: 0 };
+    Plan {
+        step,
+        unchanged: true,
+        leaving: n,
+    }
+}
+
+// What an answer that is not refused does, with the place and the time of the request's cookie.
+fn keeping(wants: bool, n: usize, at: usize, time: u64) -> Plan
+    ensures { λ r. ⌜ r ≡ keepingPlan wants n at time ⌝ }
+{
+    if wants {
+        let step = Step {
+            refusal: 0,
+            saved: time,
+        };
+        let leaving = if time == 0 { n } else { at };
+        return Plan {
+            step,
+            unchanged: false,
+            leaving,
+        };
+    }
+    unchanged(0, n)
+}
+
+// A request that is not refused: the fresh cookie and the request's stand at `fresh_at` and `at` of n records, or past the end.
+fn plan_for(
+    asked: Header,
+    short: bool,
+    fresh_cookie: ServerCookie,
+    n: usize,
+    fresh_at: usize,
+    at: usize,
+    time: u64,
+) -> Plan
+    ensures { λ r. ⌜ r ≡ planFor asked short «fresh_cookie» n «fresh_at» at time ⌝ }
+{
+    let wants = wants_interleaved(asked);
+    if wants & ((fresh_cookie.0 == 0) | (fresh_at < n)) {
+        return unchanged(8, n);
+    }
+    if short {
+        return unchanged(11, n);
+    }
+    keeping(wants, n, at, time)
+}
+
+// Any request: the records' 6 stands first.
+pub(crate) fn plan_of(
+    wrong: bool,
+    request: Reading,
+    short: bool,
+    fresh_cookie: ServerCookie,
+    n: usize,
+    fresh_at: usize,
+    at: usize,
+    time: u64,
+) -> Plan
+    ensures { λ r. ⌜ r ≡ planOf wrong request short «fresh_cookie» n «fresh_at» at time ⌝ }
+{
+    if wrong {
+        return unchanged(6, n);
+    }
+    match request {
+        Reading::Fields(asked) => plan_for(asked, short, fresh_cookie, n, fresh_at, at, time),
+        Reading::Refused(number) => unchanged(number, n),
+    }
+}
