@@ -12,7 +12,7 @@ use Rattle.chain.specs.Field.{fieldsOf}
 use Rattle.field_role.specs.Role.{noneMet}
 use Rattle.chain.proofs.Contents.{chain-append, chain-fours}
 use Rattle.field_role.proofs.Roles.{met-none}
-use Rattle.store_rules.proofs.Rows.{or-none}
+use Rattle.octets.proofs.Tests.{or-none}
 use Rattle.responder_rules.specs.Answer.{answersTo, paddingOf, answerFields}
 use Rattle.answer_fields.specs.Fields.{wrongSizes, fieldsWritten}
 use Rattle.answer_fields.specs.Pass.{answersWith}

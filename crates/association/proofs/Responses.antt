@@ -12,7 +12,7 @@ use Rattle.octets.specs.Part.{copyAt}
 use Rattle.octets.proofs.Parts.{overwritten}
 use Rattle.exchange.specs.Judging.{outcomeOf}
 use Rattle.exchange.specs.declared.response.Response.{Response}
-use Rattle.state.proofs.Tests.{by-test}
+use Rattle.octets.proofs.Tests.{by-test}
 
 -- a response's numbers fit, and its chunk lies in the datagram
 pub record GoodResponse (r : Response) (datagram : List ℕ) : Type 0 where

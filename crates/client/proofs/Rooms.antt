@@ -1,6 +1,6 @@
 -- A poll that was not refused had room for its request. Assumes nothing.
 use mathlib.Core.Path.{_≡_}
-use mathlib.Core.Bool.{Bool, true, _&&_, _||_}
+use mathlib.Core.Bool.{Bool, true, _&&_, _||_, and-eq-true-iff}
 use mathlib.Core.List.{List}
 use Prim.Native.Nat.{ℕ}
 use native.Mathlib.Omega.{arith}
@@ -19,10 +19,10 @@ use Rattle.state.specs.declared.event.Event.the-variants.{Poll}
 use Rattle.state.specs.declared.event.Reply.{Reply}
 use Rattle.state.specs.declared.head.Head.{Head}
 use Rattle.state.proofs.Chunks.{chunk-size}
-use Rattle.state.proofs.Ranges.{and-right, open-ranges}
+use Rattle.state.proofs.Ranges.{open-ranges}
 use Rattle.client_rules.specs.Octets.{tableSize, part, atOctets}
 use Rattle.client_rules.specs.Step.{eventOn}
-use Rattle.state.proofs.Tests.{by-test}
+use Rattle.octets.proofs.Tests.{by-test}
 
 module _ (cookie : ℕ) (interleaved : Bool) (room : ℕ) where
   abbrev Fits : Reply → Type 0
@@ -45,7 +45,7 @@ module _ (cookie : ℕ) (interleaved : Bool) (room : ℕ) where
   unfolding onOctets decode
   record-room datagram l =
       by-test (λ (w : Reply × List ℕ). Fits (w .0)) (eqb (length l) recordSize && inRange (headOf l))
-      (λ t. head-room (headOf l) datagram (drop headSize l) (and-right (eqb (length l) recordSize) (inRange (headOf l)) t))
+      (λ t. head-room (headOf l) datagram (drop headSize l) (and-eq-true-iff (eqb (length l) recordSize) (inRange (headOf l)) .0 t .1))
       (λ t z. absurd (omega arith))
 
   pub poll-room : (a : ℕ) (datagram t : List ℕ) → Fits (atOctets a (Poll (record { 0 = cookie }) interleaved room) datagram t .0)

@@ -19,7 +19,7 @@ use Rattle.state.specs.Plain.{Place, closed, opened, isLast, placeDo}
 use Rattle.state.specs.declared.event.Event.{Event}
 use Rattle.state.specs.declared.event.Event.the-variants.{Open, Close, Poll, Sent, Receive, Look}
 use Rattle.state.specs.declared.event.Reply.{Reply}
-use Rattle.state.proofs.Tests.{by-test}
+use Rattle.octets.proofs.Tests.{by-test}
 use Rattle.association.specs.Record.{headOf, recordSize}
 use Rattle.association.specs.Encode.{decode}
 use Rattle.association.specs.Step.{onOctets}

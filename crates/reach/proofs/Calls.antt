@@ -32,7 +32,7 @@ use Rattle.client_rules.specs.Plain.{stepPlain}
 use Rattle.client_rules.proofs.Simulate.{at-in}
 use Rattle.reach.proofs.Datagram.{responseHeader, responseDatagram, response-octets, response-read}
 use Rattle.client_rules.proofs.Tables.{atPlace}
-use Rattle.state.proofs.Tests.{by-outcome}
+use Rattle.octets.proofs.Tests.{by-outcome}
 
 -- calls lead to a head from each table of sixteen in which association a has the place p
 pub record From (a : ℕ) (p : Place) (h : Head) : Type 0 where

@@ -26,7 +26,7 @@ use Rattle.reach.specs.Reach.{EveryInRange}
 use Rattle.reach.proofs.Only.{head-after}
 use Rattle.reach.proofs.Calls.{From, call, Polls, ask, round}
 use Rattle.reach.proofs.Rounds.{choose, noneOutstanding, Leads, rounds}
-use Rattle.state.proofs.Tests.{by-outcome, same-test}
+use Rattle.octets.proofs.Tests.{by-outcome, same-test}
 
 module _ {a : ℕ} (inside : a < 16) (h : Head) (fits : HeadFits h) (r : OpenRanges h) where
   -- the last cookie is 0 exactly if nothing is outstanding and nothing was saved

@@ -23,7 +23,7 @@ use Rattle.state.proofs.Chunks.{chunk-size}
 use Rattle.state.proofs.Flags.{more-taken, still-taken}
 use Rattle.state.proofs.Ranges.{OpenRanges}
 use Rattle.reach.proofs.Calls.{From, Polls, round}
-use Rattle.state.proofs.Tests.{by-outcome}
+use Rattle.octets.proofs.Tests.{by-outcome}
 
 -- a cookie to poll with after the last one and before z
 pub record Cookie (z : ℕ) (last : Option ℕ) : Type 0 where

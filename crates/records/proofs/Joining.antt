@@ -11,7 +11,8 @@ use lib.ListN.{length, getD, set}
 use lib.Seq.{set-out}
 use Rattle.store_rules.specs.Row.{Record, held}
 use Rattle.store_rules.specs.Place.{indexOf}
-use Rattle.store_rules.proofs.Rows.{or-none, held-index, index-past}
+use Rattle.octets.proofs.Tests.{or-none}
+use Rattle.store_rules.proofs.Rows.{held-index, index-past}
 use Rattle.records.specs.Records.{unusedRecord, leaveRecords, withCookieAtFree, joinRecords}
 use Rattle.records.specs.Value.{joinPlaceBy, joinPlaceFor}
 use Rattle.records.proofs.Slots.{placeFrom}

@@ -10,7 +10,8 @@ use lib.ListN.{length, getD, set}
 use lib.Seq.{getD-at, set-at, set-getD}
 use Rattle.store_rules.specs.Row.{Record, held, timeOf, reported, usedOf}
 use Rattle.store_rules.specs.Place.{indexOf}
-use Rattle.store_rules.proofs.Rows.{or-none, Parted, part-row, held-index}
+use Rattle.octets.proofs.Tests.{or-none}
+use Rattle.store_rules.proofs.Rows.{Parted, part-row, held-index}
 use Rattle.records.specs.Records.{recordOf, recordsIn, unusedRecord, wrongRecords, reportRecords}
 use Rattle.records.specs.Value.{reportedOne, absentRefusal}
 use Rattle.records.specs.declared.Record.{Record as Slot}

@@ -9,7 +9,8 @@ use lib.Dec.{eqb}
 use lib.ListN.{length, getD}
 use Rattle.store_rules.specs.Row.{Record, held, timeOf, unused, allUnused, usedOf, soundRecords}
 use Rattle.store_rules.specs.Place.{indexOf}
-use Rattle.store_rules.proofs.Rows.{or-none, held-append, time-append}
+use Rattle.octets.proofs.Tests.{or-none}
+use Rattle.store_rules.proofs.Rows.{held-append, time-append}
 use Rattle.records.specs.Records.{unusedRecord, wrongCount, wrongRecords}
 
 -- an unused record has cookie 0 and time 0

@@ -8,7 +8,7 @@ use lib.ListN.{length, drop}
 use Rattle.header.specs.Header.{reading}
 use Rattle.chain.specs.Chain.{soundRefusal}
 use Rattle.store_rules.specs.Row.{Record, usedOf}
-use Rattle.store_rules.proofs.Rows.{or-none}
+use Rattle.octets.proofs.Tests.{or-none}
 use Rattle.responder_rules.specs.Answer.{Given, asking, savedTime, wrongArguments, answerOctets}
 use Rattle.responder_rules.specs.declared.Answered.{Answered}
 use Rattle.responder_rules.specs.declared.Answered.the-variants.{Written, Refused}

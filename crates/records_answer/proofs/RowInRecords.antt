@@ -10,7 +10,8 @@ use lib.ListN.{length, drop, replicate, length-append, replicate-append-replicat
 use lib.Seq.{take-at, drop-at}
 use Rattle.store_rules.specs.Row.{Record, held, without, joined, unused, allUnused, usedOf}
 use Rattle.store_rules.specs.Place.{indexOf}
-use Rattle.store_rules.proofs.Rows.{or-none, Parted, part-row, held-append, index-append}
+use Rattle.octets.proofs.Tests.{or-none}
+use Rattle.store_rules.proofs.Rows.{Parted, part-row, held-append, index-append}
 use Rattle.records.specs.Records.{unusedRecord, leaveRecords, withCookieAtFree, joinRecords}
 use Rattle.records.proofs.Sounds.{unused-zero, Sound}
 use Rattle.records_answer.specs.Step.{rowInRecords}

@@ -13,7 +13,8 @@ use Rattle.header.specs.declared.Reading.{Reading}
 use Rattle.header.specs.declared.Reading.the-variants.{Fields, Refused}
 use Rattle.store_rules.specs.Row.{Record, held, timeOf, without, joined, usedOf}
 use Rattle.store_rules.specs.Place.{indexOf}
-use Rattle.store_rules.proofs.Rows.{or-none, held-index, time-held}
+use Rattle.octets.proofs.Tests.{or-none}
+use Rattle.store_rules.proofs.Rows.{held-index, time-held}
 use Rattle.store_rules.proofs.Kept.{length-without, without-absent}
 use Rattle.records.specs.Records.{unusedRecord, wrongRecords, leaveRecords, joinRecords}
 use Rattle.records.proofs.Moves.{leave-past}

@@ -15,7 +15,7 @@ use Rattle.header.specs.declared.Header.{Header}
 use Rattle.chain.specs.Chain.{soundRefusal}
 use Rattle.chain.specs.Content.{chainOctets}
 use Rattle.store_rules.specs.Row.{Record, storeOctets, sizeOf, rowOf, wrongStore}
-use Rattle.store_rules.proofs.Rows.{or-none}
+use Rattle.octets.proofs.Tests.{or-none}
 use Rattle.responder_rules.specs.Answer.{Given, asking, savedTime, answerHeader, sentHeader, sentFields, answerOctets, rowAfter, wrongArguments, wrongFresh, answerRefusal, outcome, answerOf}
 use Rattle.responder_rules.specs.declared.Answered.the-variants.{Written, Refused}
 use Rattle.responder_rules.specs.Claim.{Accepted}

@@ -10,7 +10,7 @@ use lib.ListN.{length, take, drop}
 use lib.Seq.{take-at}
 use Rattle.chain.specs.Chain.{soundRefusal}
 use Rattle.store_rules.specs.Row.{Record, held, rowOf, storeOctets, sizeOf, wrongStore}
-use Rattle.store_rules.proofs.Rows.{or-none}
+use Rattle.octets.proofs.Tests.{or-none}
 use Rattle.responder_rules.specs.Answer.{Given, Outcome, wantsInterleaved, wrongArguments, wrongFresh, answerRefusal, answerOctets, answerOf, rowAfter, asking}
 use Rattle.responder_rules.specs.Claim.{Accepted, InRange, AnswerClaim, Answerable}
 use Rattle.responder_rules.proofs.Answers.{answer-size, answer-claim}

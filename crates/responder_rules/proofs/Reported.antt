@@ -7,7 +7,7 @@ use native.Mathlib.Omega.{arith}
 use borrow.Author.Tests.{ne-eqb, eqb-true, eqb-false, not-false}
 use lib.Dec.{eqb}
 use Rattle.store_rules.specs.Row.{Record, held, timeOf, reported, storeOctets, sizeOf, rowOf, wrongSize, wrongStore, cleared, reportRefusal, reporting}
-use Rattle.store_rules.proofs.Rows.{or-none}
+use Rattle.octets.proofs.Tests.{or-none}
 use Rattle.store_rules.proofs.Stores.{Stores, right-size, store-written, stores-row, stores-size}
 use Rattle.store_rules.proofs.Kept.{length-reported, sound-reported}
 use Rattle.responder_rules.specs.Claim.{Reportable}

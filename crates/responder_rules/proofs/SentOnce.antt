@@ -6,7 +6,8 @@ use Prim.Native.Nat.{ℕ, _<_, _^_}
 use borrow.Author.Tests.{eq-eqb, ne-eqb, eqb-true, eqb-false}
 use lib.Dec.{eqb}
 use Rattle.store_rules.specs.Row.{Record, held, timeOf, reported, without, joined, sizeOf, wrongSize, wrongStore, cleared, reportRefusal}
-use Rattle.store_rules.proofs.Rows.{or-none, time-held}
+use Rattle.octets.proofs.Tests.{or-none}
+use Rattle.store_rules.proofs.Rows.{time-held}
 use Rattle.store_rules.proofs.Stores.{Stores, stores-right, stores-row, stores-size}
 use Rattle.store_rules.proofs.Kept.{sound-without, without-gone, without-absent}
 use Rattle.responder_rules.specs.Answer.{Given, asking, wantsInterleaved, savedTime, rowAfter, answerRefusal, answerOf}

@@ -9,7 +9,8 @@ use borrow.Author.Tests.{eq-eqb, ne-eqb, eqb-true, eqb-false, ltb-true}
 use lib.Dec.{eqb, ltb}
 use lib.ListN.{length, drop, length-append, length-drop}
 use Rattle.store_rules.specs.Row.{Record, held, timeOf, joined}
-use Rattle.store_rules.proofs.Rows.{or-none, SoundRow, sound-before, held-append, time-append, time-absent}
+use Rattle.octets.proofs.Tests.{or-none}
+use Rattle.store_rules.proofs.Rows.{SoundRow, sound-before, held-append, time-append, time-absent}
 
 abbrev freshRecord : ℕ → List Record
 freshRecord c = record { cookie = c; time = 0 } ∷ []

@@ -8,7 +8,8 @@ use borrow.Author.Tests.{eq-eqb, ne-eqb, eqb-true, eqb-false}
 use lib.Dec.{eqb}
 use lib.ListN.{length}
 use Rattle.store_rules.specs.Row.{Record, held, timeOf, reported, without}
-use Rattle.store_rules.proofs.Rows.{or-none, SoundRow, sound-before}
+use Rattle.octets.proofs.Tests.{or-none}
+use Rattle.store_rules.proofs.Rows.{SoundRow, sound-before}
 
 -- a record with cookie c isn't that of another
 other : (r : Record) (c d : ℕ) → eqb (r .cookie) c ≡ true → (d ≡ c → ⊥) → eqb (r .cookie) d ≡ false

@@ -14,10 +14,6 @@ use Rattle.store_rules.specs.Place.{indexOf}
 
 -- ---- two tests, both of which fail
 
-pub or-none : (a b : Bool) → a || b ≡ false → (a ≡ false) × (b ≡ false)
-or-none true b e = absurd (true≢false e)
-or-none false b e = (refl, e)
-
 -- ---- sound rows
 
 -- a record that stands before later ones

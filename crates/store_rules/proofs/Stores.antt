@@ -10,7 +10,8 @@ use lib.Dec.{eqb, ltb}
 use lib.ListN.{length, length-append, length-replicate}
 use Rattle.octets.specs.Number.{Octets}
 use Rattle.store_rules.specs.Row.{Record, held, unused, allUnused, usedOf, soundRecords, storeOctets, rowOctets, recordsFrom, recordsOf, sizeOf, rowOf, wrongSize, wrongStore}
-use Rattle.store_rules.proofs.Rows.{or-none, SoundRecord, SoundRow, unusedRecord, unusedRow, held-append}
+use Rattle.octets.proofs.Tests.{or-none}
+use Rattle.store_rules.proofs.Rows.{SoundRecord, SoundRow, unusedRecord, unusedRow, held-append}
 use Rattle.store_rules.proofs.Written.{AllFit, store-row, store-records, length-row, length-records, records-fit, records-read}
 
 -- ---- records that are sound: the used ones, then unused ones

@@ -12,7 +12,7 @@ use Rattle.state.specs.Plain.{Place, closed}
 use Rattle.state.specs.declared.event.Event.{Event}
 use Rattle.state.specs.declared.event.Event.the-variants.{Poll, Receive}
 use Rattle.state.specs.declared.event.Reply.{Reply}
-use Rattle.state.proofs.Tests.{by-test}
+use Rattle.octets.proofs.Tests.{by-test}
 use Rattle.association.proofs.Simulate.{refused-same}
 use Rattle.client_rules.specs.Call.{Call, clearTable, openOne, closeOne, poll, sent, receive, loopVerdict, publish, Answer, plainAnswer}
 use Rattle.client_rules.specs.Step.{eventOn, clearing}

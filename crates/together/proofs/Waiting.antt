@@ -26,7 +26,7 @@ use Rattle.client_rules.proofs.Simulate.{at-in, at-other}
 use Rattle.client_rules.proofs.Demand3.{simulates}
 use Rattle.together.specs.Together.{leavesOutstanding, StaysOutstanding}
 use Rattle.together.proofs.Refused.{call-refused}
-use Rattle.state.proofs.Tests.{by-test}
+use Rattle.octets.proofs.Tests.{by-test}
 
 -- what a poll asks of an open place
 abbrev pub askedOf : Bool → Opened → Asked

@@ -1,6 +1,6 @@
 -- Digits and the numbers that they spell. Assumes nothing.
 use mathlib.Core.Path.{_≡_, refl, sym, ap, _∙_}
-use mathlib.Core.Bool.{Bool, true, false, cond, _&&_}
+use mathlib.Core.Bool.{Bool, true, false, cond, _&&_, and-eq-true-iff}
 use mathlib.Core.List.{List, [], _∷_}
 use Prim.Native.Nat.{ℕ, _+_, _-_, _*_, _/_, _%_, _^_, _<_, _≤_}
 use native.Mathlib.Nat.{mul-le-mul-left, div-lt-iff-lt-mul, le-div-iff-mul-le}
@@ -13,17 +13,9 @@ use lib.Seq.{drop-cons}
 use Rattle.octets.specs.Number.{getAt}
 use Rattle.words.specs.Numeral.{digitOf, allDigits, numberOf, value, atMost, mostOf, digitsOf, unsignedOf, negated, signedOf}
 
-pub both-left : (a b : Bool) → (a && b) ≡ true → a ≡ true
-both-left true b e = refl
-both-left false b e = e
-
-both-right : (a b : Bool) → (a && b) ≡ true → b ≡ true
-both-right true b e = e
-both-right false b e = absurd (let z : _≡_ {A = Bool} false true = e in let y : _≡_ {A = ℕ} 0 1 = cc in omega arith)
-
 -- between two bounds
 inside : (m n x : ℕ) → (leb m x && leb x n) ≡ true → (m ≤ x) × (x ≤ n)
-inside m n x e = (leb-true m x (both-left (leb m x) (leb x n) e), leb-true x n (both-right (leb m x) (leb x n) e))
+inside m n x e = (leb-true m x (and-eq-true-iff (leb m x) (leb x n) .0 e .0), leb-true x n (and-eq-true-iff (leb m x) (leb x n) .0 e .1))
 
 pub above : (m n x : ℕ) → (leb m x && leb x n) ≡ true → m ≤ x
 above m n x e = inside m n x e .0

@@ -8,7 +8,7 @@ use Rattle.events.proofs.Placed.{asked}
 use borrow.Author.Needs.{needs}
 use Rattle.events.proofs.reception.receive.Statement.{statement}
 use Rattle.events.proofs.reception.receive.Tie as tie
-use Rattle.state.proofs.Tests.{or-false-both}
+use Rattle.octets.proofs.Tests.{or-none}
 
 refuse-requires : tie.Need-refuse-requires
 refuse-requires c κs = search needs
@@ -45,7 +45,7 @@ returns-5 : tie.Need-returns-5
 returns-5 c = let a = c .before .before .before .before .before .before .before .before .before .before .before .before .before .before .before .before .before .before .args in refused 10 (c .refuse5 .ensures) refl (λ datagram f. asked (a .r) (a .h) datagram f (c .before .before .before .before .before .before .before .before .before .before .before .before .if1 .left) (c .before .before .before .before .before .before .before .before .before .before .if2 .left) (c .before .before .before .before .before .before .before .before .if3 .left) ∙ rw (c .before .before .before .before .if4 .left, c .before .if5 .taken, ne-eqb _ _ (c .before .before .before .before .before .before .before .before .before .before .if2 .left)))
 
 accept-requires : tie.Need-accept-requires
-accept-requires c κs = let p = c .before .before .before .before .before .before .before .before .before .before .before .before .before .before .before .before .before .pre in (p .0, c .before .before .before .before .before .before .before .before .before .if2 .left, eqb-false _ _ (or-false-both _ _ (c .before .before .before .if4 .left) .0), p .1, p .2)
+accept-requires c κs = let p = c .before .before .before .before .before .before .before .before .before .before .before .before .before .before .before .before .before .pre in (p .0, c .before .before .before .before .before .before .before .before .before .if2 .left, eqb-false _ _ (or-none _ _ (c .before .before .before .if4 .left) .0), p .1, p .2)
 
 returns-6 : tie.Need-returns-6
 returns-6 c = let a = c .before .before .before .before .before .before .before .before .before .before .before .before .before .before .before .before .before .before .args in done (c .accept .ensures) (λ datagram f. asked (a .r) (a .h) datagram f (c .before .before .before .before .before .before .before .before .before .before .before .before .if1 .left) (c .before .before .before .before .before .before .before .before .before .before .if2 .left) (c .before .before .before .before .before .before .before .before .if3 .left) ∙ rw (c .before .before .before .before .if4 .left, c .before .if5 .left)) refl

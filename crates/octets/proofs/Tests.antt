@@ -14,9 +14,10 @@ pub by-outcome : {P : Type 0} (b : Bool) → (b ≡ true → P) → (b ≡ false
 by-outcome true f g = f refl
 by-outcome false f g = g refl
 
-pub or-false-both : (a b : Bool) → a || b ≡ false → (a ≡ false) × (b ≡ false)
-or-false-both true b t = absurd (let z : _≡_ {A = ℕ} 0 1 = cc in omega arith)
-or-false-both false b t = (refl, t)
+-- neither of two tests holds
+pub or-none : (a b : Bool) → a || b ≡ false → (a ≡ false) × (b ≡ false)
+or-none true b t = absurd (let z : _≡_ {A = ℕ} 0 1 = cc in omega arith)
+or-none false b t = (refl, t)
 
 -- where a test chooses between another and its opposite, and that holds, they are one
 pub same-test : (a b : Bool) → cond a b (not b) ≡ true → a ≡ b
