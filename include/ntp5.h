@@ -11,8 +11,9 @@
  *   - one buffer is in one call at a time (there are no locks).
  * Any contents of a buffer are safe: what is wrong is refused.
  *
- * A refusal is a number from 1 to 12. It changes no buffer, and the other numbers of the answer are 0. Where several
- * apply, the first in this order is given: 6, 7, 1, 2, 3, then 4 and 5 field by field, 9, 10, 8, 11, 12.
+ * A refusal is a number from 1 to 12. It changes no buffer, and the other numbers of the answer are 0; that is proved of
+ * every call (docs/CLAIMS.md, "Refusals"), as is that the number is one of those that its comment below names. Where
+ * several apply, the first in this order is given: 6, 7, 1, 2, 3, then 4 and 5 field by field, 9, 10, 8, 11, 12.
  *
  * COOKIES ARE NEVER USED TWICE. The caller draws every client cookie and every server cookie at random and never gives one
  * a second time. The library refuses only the repeats that it can see, and with an older cookie given again a late
