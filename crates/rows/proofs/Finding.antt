@@ -8,10 +8,10 @@ use native.Mathlib.Omega.{arith}
 use borrow.Author.Tests.{eq-eqb, ne-eqb, lt-ltb, le-ltb}
 use lib.Dec.{eqb}
 use lib.ListN.{length}
-use Rattle.words.specs.Numeral.{readOf}
+use Rattle.words.specs.Numeral.{wordValue}
 use Rattle.text.specs.Place.{partOf, pieceOf, sameOf}
 use Rattle.rows.specs.declared.Found.{Found}
-use Rattle.rows.specs.Rows.{found, modeProblem, octetsProblem, problemOf, problemAt, faultFrom, faultOf, rowFrom, rowOf, foundAt, foundOf, callIn, callOf}
+use Rattle.rows.specs.Rows.{found, modeProblem, octetsProblem, problemOf, problemAt, faultFrom, faultOf, rowFrom, rowNumber, foundAt, foundOf, callIn, callNumber}
 
 -- WHAT IS WRONG WITH A WORD
 
@@ -38,7 +38,7 @@ module _ (letter : ℕ) (word : List ℕ) where
       unfolding problemOf
       problem-octets = ⊎-elim (λ k. rw (e, ne-eqb (length word) 0 h, k)) (λ k. rw (e, ne-eqb (length word) 0 h, k))
 
-      pub problem-number : (letter ≡ 109 → ⊥) → (letter ≡ 73 → ⊥) → (letter ≡ 79 → ⊥) → readOf letter word .problem ≡ problemOf letter word
+      pub problem-number : (letter ≡ 109 → ⊥) → (letter ≡ 73 → ⊥) → (letter ≡ 79 → ⊥) → wordValue letter word .problem ≡ problemOf letter word
       unfolding problemOf
       problem-number k l m = rw (e, ne-eqb (length word) 0 h, ne-eqb letter 109 k, ne-eqb letter 73 l, ne-eqb letter 79 m)
 
@@ -84,7 +84,7 @@ module _ (rows line name : List ℕ) (e : name ≡ pieceOf line 0 32) where
   unfolding foundOf
   find-none h = rw (← e, h)
 
-  module _ (h : length name ≡ 0 → ⊥) (call : ℕ) (f : call ≡ rowOf rows name) where
+  module _ (h : length name ≡ 0 → ⊥) (call : ℕ) (f : call ≡ rowNumber rows name) where
     find-at : foundAt call rows line ≡ foundOf rows line
     unfolding foundOf
     find-at = rw (← e, ne-eqb (length name) 0 h, f)
@@ -99,17 +99,17 @@ module _ (rows line name : List ℕ) (e : name ≡ pieceOf line 0 32) where
         z ∙ find-at
 
 module _ (rows line : List ℕ) (n : ℕ) where
-  pub call-long : length line < n → 64 ≡ callOf rows line n
-  unfolding callOf
+  pub call-long : length line < n → 64 ≡ callNumber rows line n
+  unfolding callNumber
   call-long h = rw (lt-ltb (length line) n h)
 
   module _ (h : n ≤ length line) (s : List ℕ) (e : s ≡ partOf line 0 n) (f : Found) (g : f ≡ foundOf rows s) where
-    call-at : callIn f ≡ callOf rows line n
-    unfolding callOf
+    call-at : callIn f ≡ callNumber rows line n
+    unfolding callNumber
     call-at = rw (le-ltb (length line) n h, g, e)
 
-    pub call-wrong : (f .problem ≡ 0 → ⊥) → 64 ≡ callOf rows line n
+    pub call-wrong : (f .problem ≡ 0 → ⊥) → 64 ≡ callNumber rows line n
     call-wrong k = let z : 64 ≡ callIn f = rw (ne-eqb (f .problem) 0 k) in z ∙ call-at
 
-    pub call-right : f .problem ≡ 0 → f .call ≡ callOf rows line n
+    pub call-right : f .problem ≡ 0 → f .call ≡ callNumber rows line n
     call-right k = let z : f .call ≡ callIn f = rw k in z ∙ call-at

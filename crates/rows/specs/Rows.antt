@@ -5,7 +5,7 @@ use Prim.Native.Nat.{ℕ, zero, suc, _+_}
 use lib.Dec.{eqb, ltb}
 use lib.ListN.{length}
 use Rattle.octets.specs.Number.{getAt}
-use Rattle.words.specs.Numeral.{readOf}
+use Rattle.words.specs.Numeral.{wordValue}
 use Rattle.words.specs.OctetWord.{writeOf}
 use Rattle.text.specs.Place.{partOf, pieceOf, sameOf}
 use Rattle.rows.specs.declared.Found.{Found}
@@ -29,7 +29,7 @@ problemOf letter word =
     (cond (eqb (length word) 0) 2
     (cond (eqb letter 109) (modeProblem word)
     (cond (eqb letter 73 || eqb letter 79) (octetsProblem word)
-    (readOf letter word .problem))))
+    (wordValue letter word .problem))))
 
 -- a letter's word stands one further on, since the first is the call's name
 abbrev pub problemAt : ℕ → List ℕ → List ℕ → ℕ
@@ -52,20 +52,20 @@ rowFrom zero k rows name = k
 rowFrom (suc n) k rows name = cond (sameOf (pieceOf (pieceOf rows k 10) 0 32) name) k (rowFrom n (k + 1) rows name)
 
 -- 64 is no row
-abbrev pub rowOf : List ℕ → List ℕ → ℕ
-rowOf rows name = rowFrom 64 0 rows name
+abbrev pub rowNumber : List ℕ → List ℕ → ℕ
+rowNumber rows name = rowFrom 64 0 rows name
 
 -- an unknown call is 1
 abbrev pub foundAt : ℕ → List ℕ → List ℕ → Found
 foundAt call rows line = cond (eqb call 64) (found 64 1 1) (faultOf call line (pieceOf (pieceOf rows call 10) 1 32))
 
 unfoldable pub foundOf : List ℕ → List ℕ → Found
-foundOf rows line = cond (eqb (length (pieceOf line 0 32)) 0) (found 64 0 0) (foundAt (rowOf rows (pieceOf line 0 32)) rows line)
+foundOf rows line = cond (eqb (length (pieceOf line 0 32)) 0) (found 64 0 0) (foundAt (rowNumber rows (pieceOf line 0 32)) rows line)
 
 -- no call where something is wrong
 abbrev pub callIn : Found → ℕ
 callIn f = cond (eqb (f .problem) 0) (f .call) 64
 
 -- a line longer than its octets is too long
-unfoldable pub callOf : List ℕ → List ℕ → ℕ → ℕ
-callOf rows line n = cond (ltb (length line) n) 64 (callIn (foundOf rows (partOf line 0 n)))
+unfoldable pub callNumber : List ℕ → List ℕ → ℕ → ℕ
+callNumber rows line n = cond (ltb (length line) n) 64 (callIn (foundOf rows (partOf line 0 n)))

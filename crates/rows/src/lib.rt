@@ -13,7 +13,7 @@ use text::same;
 use words::number::read;
 use words::octet_word::write;
 ghost use mathlib.Core.Path.{_≡_};
-ghost use Rattle.rows.specs.Rows.{modeProblem, octetsProblem, problemOf, rowOf, faultOf, foundOf, callOf};
+ghost use Rattle.rows.specs.Rows.{modeProblem, octetsProblem, problemOf, rowNumber, faultOf, foundOf, callNumber};
 
 // What can be wrong with a line, besides what text says of numbers and octets, 4 to 8: the numbers of the rows in
 // `print::problem`. 0 is nothing.
@@ -102,7 +102,7 @@ fn check(call: usize, line: &[u8], signature: &[u8]) -> Found
 
 // The number of the row with this name.
 fn look_up(rows: &[u8], name: &[u8]) -> usize
-    ensures { λ r. ⌜ r ≡ rowOf (now (rows .entry)) (now (name .entry)) ⌝ }
+    ensures { λ r. ⌜ r ≡ rowNumber (now (rows .entry)) (now (name .entry)) ⌝ }
 {
     let mut k: usize = 0;
     while k < NONE {
@@ -139,7 +139,7 @@ fn find(rows: &[u8], line: &[u8]) -> Found
 
 // The call of the line of this length and number. What is wrong with a line is printed, and the line is then no call.
 pub fn call_of(rows: &[u8], line: &[u8], length: usize, number: u64) -> usize
-    ensures { λ r. ⌜ r ≡ callOf (now (rows .entry)) (now (line .entry)) length ⌝ }
+    ensures { λ r. ⌜ r ≡ callNumber (now (rows .entry)) (now (line .entry)) length ⌝ }
 {
     if length > line.len() {
         print::problem(number, 0, TOO_LONG);

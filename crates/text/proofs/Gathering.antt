@@ -7,7 +7,7 @@ use lib.Dec.{ltb}
 use lib.ListN.{length}
 use Rattle.octets.specs.Part.{copyAt}
 use Rattle.text.specs.declared.gather.Line.{Line}
-use Rattle.text.specs.Place.{partOf, placeOf}
+use Rattle.text.specs.Place.{partOf, octetPlace}
 use Rattle.text.specs.Gather.{takenOf, gatheredTo, gathered}
 
 -- the line and its buffer from the two places, how many octets go to it, and its new length
@@ -25,10 +25,10 @@ made s l b end stop n = (
   b,
 )
 
-pub gathered-as : (s : List ℕ) (l : Line) (b b′ p : List ℕ) (end stop n m : ℕ) → end ≡ placeOf s (l .at) 10 true → p ≡ partOf s 0 end
-    → stop ≡ placeOf p (l .at) 35 true → n ≡ takenOf s (l .at) stop (l .comment) → b′ ≡ copyAt b (l .size) s (l .at) n
+pub gathered-as : (s : List ℕ) (l : Line) (b b′ p : List ℕ) (end stop n m : ℕ) → end ≡ octetPlace s (l .at) 10 true → p ≡ partOf s 0 end
+    → stop ≡ octetPlace p (l .at) 35 true → n ≡ takenOf s (l .at) stop (l .comment) → b′ ≡ copyAt b (l .size) s (l .at) n
     → m ≡ (l .size + n) % 2 ^ 64 → made s l b′ end stop m ≡ gathered s l b
 unfolding gathered gatheredTo
 gathered-as s l b b′ p end stop n m e f g h i j =
-    let k : stop ≡ placeOf (partOf s 0 end) (l .at) 35 true = g ∙ ap (λ (t : List ℕ). placeOf t (l .at) 35 true) f in
+    let k : stop ≡ octetPlace (partOf s 0 end) (l .at) 35 true = g ∙ ap (λ (t : List ℕ). octetPlace t (l .at) 35 true) f in
     rw (j, i, h, k, e)

@@ -9,7 +9,7 @@ use borrow.Author.Tests.{le-leb, lt-leb, leb-true, leb-false, eq-eqb, eqb-true}
 use lib.Dec.{leb, eqb}
 use lib.ListN.{length, getD, take, drop, length-drop, drop-of-length-le}
 use lib.Seq.{take-all, drop-cons, drop-drop, drop-length}
-use Rattle.text.specs.Place.{partOf, fits, onward, ahead, placeOf, pieceFrom, pieceOf, sameOf}
+use Rattle.text.specs.Place.{partOf, fits, onward, ahead, octetPlace, pieceFrom, pieceOf, sameOf}
 
 -- a part that begins after its end is empty
 pub part-late : (s : List ℕ) (from to : ℕ) → to < from → [] ≡ partOf s from to
@@ -48,12 +48,12 @@ module _ (octet : ℕ) (same : Bool) where
 
   -- the place is found
   pub place-here : (s : List ℕ) (at i : ℕ) → i < length s → fits octet same (getD s i 0) ≡ true
-      → onward octet same (drop i s) ≡ onward octet same (drop at s) → i ≡ placeOf s at octet same
+      → onward octet same (drop i s) ≡ onward octet same (drop at s) → i ≡ octetPlace s at octet same
   place-here s at i h t e = rw (sym e ∙ onward-here s i h t) (omega (arith, length-drop i s))
 
   -- there is none
   pub place-end : (s : List ℕ) (at i : ℕ) → length s ≤ i
-      → onward octet same (drop i s) ≡ onward octet same (drop at s) → length s ≡ placeOf s at octet same
+      → onward octet same (drop i s) ≡ onward octet same (drop at s) → length s ≡ octetPlace s at octet same
   place-end s at i h e = rw (sym e ∙ onward-end s i h) (omega arith)
 
   -- what is left is no more than there was
@@ -83,7 +83,7 @@ module _ (octet : ℕ) (same : Bool) where
           rw z e
 
   -- from the place that is found on
-  place-drop : (s : List ℕ) (at : ℕ) → drop (placeOf s at octet same) s ≡ onward octet same (drop at s)
+  place-drop : (s : List ℕ) (at : ℕ) → drop (octetPlace s at octet same) s ≡ onward octet same (drop at s)
   place-drop s at = go (leb at (length s)) refl
     where
       go : (b : Bool) → leb at (length s) ≡ b → drop (length s - length (onward octet same (drop at s))) s ≡ onward octet same (drop at s)
@@ -101,13 +101,13 @@ module _ (octet : ℕ) (same : Bool) where
 
 module _ (s : List ℕ) (number separator : ℕ) where
   -- where the first piece begins
-  pub piece-first : (at : ℕ) → at ≡ placeOf s 0 separator false
+  pub piece-first : (at : ℕ) → at ≡ octetPlace s 0 separator false
       → pieceFrom separator (number - 0) (drop at s) ≡ pieceOf s number separator
   unfolding pieceOf
   piece-first at e = let z : number - 0 ≡ number = omega arith in rw (z, e, place-drop separator false s 0)
 
   -- where the next one begins
-  pub piece-next : (k at to from : ℕ) → k < number → to ≡ placeOf s at separator true → from ≡ placeOf s to separator false
+  pub piece-next : (k at to from : ℕ) → k < number → to ≡ octetPlace s at separator true → from ≡ octetPlace s to separator false
       → pieceFrom separator (number - (k + 1)) (drop from s) ≡ pieceFrom separator (number - k) (drop at s)
   unfolding pieceFrom
   piece-next k at to from h e f =
@@ -115,7 +115,7 @@ module _ (s : List ℕ) (number separator : ℕ) where
       rw (z, f, place-drop separator false s to, e, place-drop separator true s at)
 
   -- the wanted one
-  pub piece-last : (k at to : ℕ) → number ≤ k → to ≡ placeOf s at separator true
+  pub piece-last : (k at to : ℕ) → number ≤ k → to ≡ octetPlace s at separator true
       → partOf s at to ≡ pieceFrom separator (number - k) (drop at s)
   unfolding pieceFrom ahead
   piece-last k at to h e =

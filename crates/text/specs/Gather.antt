@@ -6,7 +6,7 @@ use lib.Dec.{ltb}
 use lib.ListN.{length}
 use Rattle.octets.specs.Part.{copyAt}
 use Rattle.text.specs.declared.gather.Line.{Line}
-use Rattle.text.specs.Place.{partOf, placeOf}
+use Rattle.text.specs.Place.{partOf, octetPlace}
 
 -- how many octets go to the line
 unfoldable pub takenOf : List ℕ → ℕ → ℕ → Bool → ℕ
@@ -30,4 +30,4 @@ gatheredTo s l buffer end stop = (
 -- the line goes to the next line feed or the end, and its comment begins at the first # before that
 unfoldable pub gathered : List ℕ → Line → List ℕ → Line × List ℕ
 gathered s l buffer =
-    gatheredTo s l buffer (placeOf s (l .at) 10 true) (placeOf (partOf s 0 (placeOf s (l .at) 10 true)) (l .at) 35 true)
+    gatheredTo s l buffer (octetPlace s (l .at) 10 true) (octetPlace (partOf s 0 (octetPlace s (l .at) 10 true)) (l .at) 35 true)

@@ -27,8 +27,8 @@ unfoldable pub ahead : ℕ → Bool → List ℕ → List ℕ
 ahead octet same s = take (length s - length (onward octet same s)) s
 
 -- its place, looked for from `at` on; the end where there is none
-abbrev pub placeOf : List ℕ → ℕ → ℕ → Bool → ℕ
-placeOf s at octet same = length s - length (onward octet same (drop at s))
+abbrev pub octetPlace : List ℕ → ℕ → ℕ → Bool → ℕ
+octetPlace s at octet same = length s - length (onward octet same (drop at s))
 
 -- the piece of a number, from 0 on, of a text that begins with a piece
 unfoldable pub pieceFrom : ℕ → ℕ → List ℕ → List ℕ

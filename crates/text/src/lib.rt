@@ -3,7 +3,7 @@ pub mod gather;
 
 ghost use mathlib.Core.Path.{_≡_};
 ghost use lib.ListN.{drop};
-ghost use Rattle.text.specs.Place.{plainOf, partOf, placeOf, pieceOf, sameOf};
+ghost use Rattle.text.specs.Place.{plainOf, partOf, octetPlace, pieceOf, sameOf};
 
 // The octets from..to, or none where the text has no such part.
 pub fn part(text: &[u8], from: usize, to: usize) -> &[u8]
@@ -39,7 +39,7 @@ fn plain(octet: u8) -> u8
 
 // The first place from `at` on where an octet is this one, or where one is not; or the end.
 pub fn find(text: &[u8], at: usize, octet: u8, same: bool) -> usize
-    ensures { λ r. ⌜ r ≡ placeOf (now (text .entry)) at octet same ⌝ }
+    ensures { λ r. ⌜ r ≡ octetPlace (now (text .entry)) at octet same ⌝ }
 {
     let mut i = at;
     while i < text.len() {

@@ -10,7 +10,7 @@ use lib.ListN.{length, drop}
 use Rattle.octets.specs.Number.{num, getAt}
 use Rattle.words.specs.declared.number.Value.{Value}
 use Rattle.words.specs.Numeral.{digitOf, digitsOf}
-use Rattle.text.specs.Place.{partOf, placeOf}
+use Rattle.text.specs.Place.{partOf, octetPlace}
 use Rattle.words.specs.OctetWord.{run, wrong, separatedAt, afterCount, countedRun, runOf}
 
 module _ (s : List ℕ) where
@@ -36,7 +36,7 @@ module _ (s : List ℕ) where
       unfolding separatedAt
       separated-more n = rw (eq-eqb (getAt s at 1) 44 (sym e ∙ t), ne-eqb (length (drop at s)) 1 (λ z. n (ap length f ∙ z)))
 
-  module _ (end : ℕ) (text : List ℕ) (count : Value) (e : end ≡ placeOf s 3 44 true) (f : text ≡ partOf s 3 end) (g : count ≡ digitsOf 10 18446744073709551615 text) where
+  module _ (end : ℕ) (text : List ℕ) (count : Value) (e : end ≡ octetPlace s 3 44 true) (f : text ≡ partOf s 3 end) (g : count ≡ digitsOf 10 18446744073709551615 text) where
     counted-as : afterCount s end count ≡ countedRun s
     unfolding countedRun
     counted-as = rw (g, f, e)

@@ -12,7 +12,7 @@ use Rattle.octets.specs.Number.{getAt, putAt}
 use Rattle.words.specs.declared.number.Value.{Value}
 use Rattle.words.specs.declared.octet_word.Run.{Run}
 use Rattle.words.specs.Numeral.{digitOf, value}
-use Rattle.words.specs.OctetWord.{runOf, pairOf, judged, fillFrom, writeFrom, writeOf, wordOctets}
+use Rattle.words.specs.OctetWord.{runOf, pairOf, runProblem, fillFrom, writeFrom, writeOf, wordOctets}
 use Rattle.words.specs.Line.{octetsAt}
 use Rattle.text.specs.Place.{pieceOf}
 
@@ -33,8 +33,8 @@ unfolding pairOf
 pair-as s a d a₂ d₂ e f e₂ f₂ = rw (f, e, f₂, e₂)
 
 -- a run that is judged good has room
-pub judged-room : (r : Run) (count : ℕ) → count ≤ 4096 → judged r count ≡ 0 → count + r .times ≤ 4096
-unfolding judged
+pub judged-room : (r : Run) (count : ℕ) → count ≤ 4096 → runProblem r count ≡ 0 → count + r .times ≤ 4096
+unfolding runProblem
 judged-room r count h = go (eqb (r .problem) 0) refl (leb (r .times) (4096 - count)) refl
   where
     go : (a : Bool) → eqb (r .problem) 0 ≡ a → (b : Bool) → leb (r .times) (4096 - count) ≡ b → cond a (cond b 0 8) (r .problem) ≡ 0 → count + r .times ≤ 4096
@@ -78,12 +78,12 @@ module _ (b : List ℕ) (count : ℕ) where
   write-done zero s h = refl
   write-done (suc n) s h = rw (le-ltb 0 (length s) h)
 
-  module _ (s : List ℕ) (r : Run) (problem : ℕ) (some : 0 < length s) (e : r ≡ runOf s) (f : problem ≡ judged r count) where
+  module _ (s : List ℕ) (r : Run) (problem : ℕ) (some : 0 < length s) (e : r ≡ runOf s) (f : problem ≡ runProblem r count) where
     pub write-wrong : (turns : ℕ) → 0 < turns → (problem ≡ 0 → ⊥) → (value count problem, b) ≡ writeFrom turns b count s
     unfolding writeFrom
     write-wrong zero h t = absurd (omega arith)
     write-wrong (suc n) h t =
-        let z : problem ≡ judged (runOf s) count = f ∙ ap (λ (x : Run). judged x count) e in
+        let z : problem ≡ runProblem (runOf s) count = f ∙ ap (λ (x : Run). runProblem x count) e in
         rw (lt-ltb 0 (length s) some, ← z, ne-eqb problem 0 t)
 
     pub write-next : (turns : ℕ) → 0 < turns → problem ≡ 0 → (b′ rest : List ℕ) (octet : ℕ) → octet ≡ pairOf s
@@ -91,7 +91,7 @@ module _ (b : List ℕ) (count : ℕ) where
     unfolding writeFrom
     write-next zero h t b′ rest octet g k l = absurd (omega arith)
     write-next (suc n) h t b′ rest octet g k l =
-        let z : problem ≡ judged (runOf s) count = f ∙ ap (λ (x : Run). judged x count) e in
+        let z : problem ≡ runProblem (runOf s) count = f ∙ ap (λ (x : Run). runProblem x count) e in
         let y : suc n - 1 ≡ n = omega arith in
         rw (lt-ltb 0 (length s) some, ← z, eq-eqb problem 0 t, y, l, k, g, e)
 

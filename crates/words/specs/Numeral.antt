@@ -56,5 +56,5 @@ mostOf letter =
     18446744073709551615))
 
 -- s is 8 bits with a sign
-unfoldable pub readOf : ℕ → List ℕ → Value
-readOf letter s = cond (eqb letter 115) (signedOf s) (unsignedOf (mostOf letter) s)
+unfoldable pub wordValue : ℕ → List ℕ → Value
+wordValue letter s = cond (eqb letter 115) (signedOf s) (unsignedOf (mostOf letter) s)

@@ -8,7 +8,7 @@ use Rattle.octets.specs.Number.{getAt, putAt}
 use Rattle.words.specs.declared.number.Value.{Value}
 use Rattle.words.specs.declared.octet_word.Run.{Run}
 use Rattle.words.specs.Numeral.{digitOf, digitsOf, value}
-use Rattle.text.specs.Place.{partOf, placeOf}
+use Rattle.text.specs.Place.{partOf, octetPlace}
 
 abbrev pub run : ℕ → ℕ → Run
 run times end = record { times = times; end = end; problem = 0 }
@@ -25,7 +25,7 @@ unfoldable pub afterCount : List ℕ → ℕ → Value → Run
 afterCount s end count = cond (eqb (count .problem) 4) (wrong 6) (separatedAt s end (count .value))
 
 unfoldable pub countedRun : List ℕ → Run
-countedRun s = afterCount s (placeOf s 3 44 true) (digitsOf 10 18446744073709551615 (partOf s 3 (placeOf s 3 44 true)))
+countedRun s = afterCount s (octetPlace s 3 44 true) (digitsOf 10 18446744073709551615 (partOf s 3 (octetPlace s 3 44 true)))
 
 -- what stands at a text's start; a digit without its pair is 7
 unfoldable pub runOf : List ℕ → Run
@@ -40,8 +40,8 @@ unfoldable pub pairOf : List ℕ → ℕ
 pairOf s = digitOf (getAt s 0 1) % 16 * 16 + digitOf (getAt s 1 1) % 16
 
 -- what is wrong with a run after so many octets; above 4,096 of them is 8
-unfoldable pub judged : Run → ℕ → ℕ
-judged r count = cond (eqb (r .problem) 0) (cond (leb (r .times) (4096 - count)) 0 8) (r .problem)
+unfoldable pub runProblem : Run → ℕ → ℕ
+runProblem r count = cond (eqb (r .problem) 0) (cond (leb (r .times) (4096 - count)) 0 8) (r .problem)
 
 -- an octet written n times from a place on, where there are the places
 unfoldable pub fillFrom : List ℕ → ℕ → ℕ → ℕ → List ℕ
@@ -54,9 +54,9 @@ unfoldable pub writeFrom : ℕ → List ℕ → ℕ → List ℕ → Value × Li
 writeFrom zero b count s = (value count 0, b)
 writeFrom (suc turns) b count s =
     cond (ltb 0 (length s))
-    (cond (eqb (judged (runOf s) count) 0)
+    (cond (eqb (runProblem (runOf s) count) 0)
     (writeFrom turns (fillFrom b count (runOf s .times) (pairOf s)) (count + runOf s .times) (drop (runOf s .end) s))
-    (value count (judged (runOf s) count), b))
+    (value count (runProblem (runOf s) count), b))
     (value count 0, b)
 
 -- a minus sign is no octets

@@ -3,7 +3,7 @@ use octets::number::get8;
 use text::rest;
 ghost use mathlib.Core.Path.{_≡_};
 ghost use Prim.Native.Nat.{_<_, _≤_};
-ghost use Rattle.words.specs.Numeral.{digitOf, allDigits, atMost, numberOf, digitsOf, unsignedOf, signedOf, mostOf, readOf};
+ghost use Rattle.words.specs.Numeral.{digitOf, allDigits, atMost, numberOf, digitsOf, unsignedOf, signedOf, mostOf, wordValue};
 
 // What can be wrong with a word that is to be a number.
 pub const NOT_A_NUMBER: u8 = 4;
@@ -124,7 +124,7 @@ fn most(letter: u8) -> u64
 
 // The number that a word is, by its letter: b, h, w for 8, 16, 32 bits, s for 8 bits with a sign, any other for 64.
 pub fn read(word: &[u8], letter: u8) -> Value
-    ensures { λ r. ⌜ r ≡ readOf letter (now (word .entry)) ⌝ }
+    ensures { λ r. ⌜ r ≡ wordValue letter (now (word .entry)) ⌝ }
 {
     if letter == b's' {
         return signed(word);

@@ -12,7 +12,7 @@ use text::rest;
 ghost use mathlib.Core.Path.{_≡_};
 ghost use Prim.Native.Nat.{_+_, _≤_};
 ghost use lib.ListN.{length};
-ghost use Rattle.words.specs.OctetWord.{separatedAt, countedRun, runOf, pairOf, judged, fillFrom, writeFrom, writeOf, wordOctets};
+ghost use Rattle.words.specs.OctetWord.{separatedAt, countedRun, runOf, pairOf, runProblem, fillFrom, writeFrom, writeOf, wordOctets};
 
 // What can be wrong with a word that is to be octets.
 pub const NOT_OCTETS: u8 = 6;
@@ -103,7 +103,7 @@ fn pair(text: &[u8]) -> u8
 // What is wrong with a run, also that it has no room after so many octets.
 fn judge(run: Run, count: u64) -> u8
     requires { ⌜ count ≤ 4096 ⌝ }
-    ensures { λ r. ⌜ r ≡ judged run count ⌝ }
+    ensures { λ r. ⌜ r ≡ runProblem run count ⌝ }
 {
     if run.problem != 0 {
         return run.problem;

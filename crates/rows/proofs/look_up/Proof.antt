@@ -2,14 +2,14 @@
 use mathlib.Core.Path.{_≡_, refl, _∙_}
 use Prim.Native.Nat.{_-_, _≤_}
 use native.Mathlib.Omega.{arith}
-use Rattle.rows.specs.Rows.{rowFrom, rowOf}
+use Rattle.rows.specs.Rows.{rowFrom, rowNumber}
 use Rattle.rows.proofs.Finding.{row-here, row-next, row-none}
 use borrow.Author.Needs.{needs}
 use Rattle.rows.proofs.look_up.Statement.{statement}
 use Rattle.rows.proofs.look_up.Tie as tie
 
 abbrev Inv-loop : tie.InvT-loop
-Inv-loop rows name k₀ k = (k ≤ 64) × (rowFrom (64 - k) k rows name ≡ rowOf rows name)
+Inv-loop rows name k₀ k = (k ≤ 64) × (rowFrom (64 - k) k rows name ≡ rowNumber rows name)
 
 abbrev μ-loop : tie.MeasureT-loop
 μ-loop rows name k₀ k = 64 - k

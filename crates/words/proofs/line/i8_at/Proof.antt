@@ -5,7 +5,7 @@ use mir.Syntax.{w8}
 use mir.Val.{toZ}
 use mir.Facts.{toZ-ofZ}
 use Rattle.words.specs.declared.number.Value.{Value}
-use Rattle.words.specs.Numeral.{readOf}
+use Rattle.words.specs.Numeral.{wordValue}
 use Rattle.words.specs.Line.{signedAt}
 use borrow.Author.Needs.{needs}
 use Rattle.words.proofs.line.i8_at.Statement.{statement}
@@ -29,7 +29,7 @@ returns c =
     let r = c .before .before in
     toZ-ofZ {w = w8} (record { sfits = c .from-octet .ok })
     ∙ c .from-octet .ensures
-    ∙ ap (λ (v : Value). toZ w8 (v .value % 256)) (r .read .ensures ∙ ap (readOf 115) (r .before .piece .ensures))
+    ∙ ap (λ (v : Value). toZ w8 (v .value % 256)) (r .read .ensures ∙ ap (wordValue 115) (r .before .piece .ensures))
 
 pub i8-at-spec : {M : Type 1} → statement M
 i8-at-spec =

@@ -4,7 +4,7 @@ use mathlib.Core.Bool.{true}
 use mathlib.Core.List.{List}
 use Prim.Native.Nat.{ℕ, _+_}
 use Rattle.words.specs.Line.{wordOf}
-use Rattle.text.specs.Place.{pieceOf, placeOf}
+use Rattle.text.specs.Place.{pieceOf, octetPlace}
 use borrow.Author.Needs.{needs}
 use Rattle.words.proofs.line.word_of.Statement.{statement}
 use Rattle.words.proofs.line.word_of.Tie as tie
@@ -27,7 +27,7 @@ returns c =
     let a = c .before .before .before .before .before .args in
     c .piece2 .ensures
     ∙ ap (λ (n : ℕ). pieceOf (a .line .now) (n + 1) 32)
-    (c .before .find .ensures ∙ ap (λ (s : List ℕ). placeOf s 0 (a .letter) true) (c .before .before .piece .ensures))
+    (c .before .find .ensures ∙ ap (λ (s : List ℕ). octetPlace s 0 (a .letter) true) (c .before .before .piece .ensures))
 
 pub word-of-spec : {M : Type 1} → statement M
 word-of-spec = tie.close (tie.spec piece-requires find-requires add-piece piece-requires-2 returns)

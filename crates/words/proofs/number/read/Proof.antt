@@ -2,7 +2,7 @@
 use mathlib.Core.Path.{ap, _∙_, subst⁻¹}
 use Prim.Native.Nat.{ℕ, _≤_}
 use borrow.Author.Tests.{eq-eqb, ne-eqb}
-use Rattle.words.specs.Numeral.{unsignedOf, readOf}
+use Rattle.words.specs.Numeral.{unsignedOf, wordValue}
 use Rattle.words.proofs.Numerals.{most-bound}
 use borrow.Author.Needs.{needs}
 use Rattle.words.proofs.number.read.Statement.{statement}
@@ -12,7 +12,7 @@ signed-requires : tie.Need-signed-requires
 signed-requires c κs = search needs
 
 returns : tie.Need-returns
-unfolding readOf
+unfolding wordValue
 returns c = rw (eq-eqb _ _ (c .before .if1 .taken)) (c .signed .ensures)
 
 most-requires : tie.Need-most-requires
@@ -22,7 +22,7 @@ unsigned-requires : tie.Need-unsigned-requires
 unsigned-requires c κs = subst⁻¹ (λ (n : ℕ). 16 ≤ n) (c .most .ensures) (most-bound _)
 
 returns-2 : tie.Need-returns-2
-unfolding readOf
+unfolding wordValue
 returns-2 c =
     let a = c .before .before .before .before .args in
     rw (ne-eqb _ _ (c .before .before .if1 .left)) (c .unsigned .ensures ∙ ap (λ (n : ℕ). unsignedOf n (a .word .now)) (c .before .most .ensures))
