@@ -1,13 +1,13 @@
 -- An answer on records is the answer on their octets. Assumes nothing.
 use mathlib.Core.Path.{_≡_, refl, sym, ap, _∙_}
-use mathlib.Core.List.{List, _++_}
+use mathlib.Core.List.{List}
 use Prim.Native.Nat.{ℕ}
-use lib.ListN.{length, drop}
+use lib.ListN.{length}
 use Rattle.store_rules.specs.Row.{Record, usedOf, rowOctets, storeOctets}
 use Rattle.store_rules.proofs.Written.{store-row}
 use Rattle.records.specs.Records.{Fit}
 use Rattle.records.proofs.Encoding.{size-is, row-is, wrong-is}
-use Rattle.responder_rules.specs.Answer.{Given, asking, rowAfter, firstRefusal, shortOutput, answerOctets, answerRefusal, Outcome as OctetsOutcome, answerOf}
+use Rattle.responder_rules.specs.Answer.{Given, asking, rowAfter, firstRefusal, shortOutput, outputAfter, answerRefusal, Outcome as OctetsOutcome, answerOf}
 use Rattle.responder_rules.proofs.Accepting.{by-refusal, answer-written, answer-refused}
 use Rattle.records_answer.specs.Step.{Stepped}
 use Rattle.records_answer.specs.Answer.{stepOf, Outcome, answerRecords}
@@ -37,7 +37,7 @@ module _ (g : Given) (rs : List Record) (f : Fit rs) (out : List ℕ) where
       go : Way g rs (firstRefusal g) (shortOutput g out) (stepOf g rs out) → ofOctets (answerOf g (rowOctets rs) out) ≡ ofRecords (answerRecords g rs out)
       go (goes n s e) =
           ap ofOctets (answer-written g (rowOctets rs) out (refusal-same ∙ ap (λ (s : Stepped). s .refusal) e) ∙ rw (row-is rs f, size-is rs))
-          ∙ ap (λ (l : List ℕ). (answered 0 (length (g .request)) (answerOctets g (usedOf rs) ++ drop (length (g .request)) out), l)) octets-left
+          ∙ ap (λ (l : List ℕ). (answered 0 (length (g .request)) (outputAfter g (usedOf rs) out), l)) octets-left
           ∙ sym (ap ofRecords (answer-done g rs out e))
       go (stops z e) =
           ap ofOctets (answer-refused g (rowOctets rs) out (λ k. z (sym refusal-same ∙ k)))

@@ -1,16 +1,16 @@
 -- The step of an answer by its tests, and what the answer then returns. Assumes nothing.
 use mathlib.Core.Path.{_≡_, refl}
 use mathlib.Core.Bool.{Bool, true, false, cond}
-use mathlib.Core.List.{List, _++_}
+use mathlib.Core.List.{List}
 use Prim.Native.Nat.{ℕ, zero, suc}
 use native.Mathlib.Omega.{arith}
 use borrow.Author.Tests.{eqb-true, eqb-false, ne-eqb}
 use lib.Dec.{eqb}
-use lib.ListN.{length, drop}
+use lib.ListN.{length}
 use Rattle.header.specs.Header.{reading}
 use Rattle.store_rules.specs.Row.{Record, usedOf}
 use Rattle.records.specs.Records.{wrongRecords}
-use Rattle.responder_rules.specs.Answer.{Given, asking, savedTime, rowAfter, firstRefusal, wrongFresh, shortOutput, refusedAnswer, answerOctets}
+use Rattle.responder_rules.specs.Answer.{Given, asking, savedTime, rowAfter, firstRefusal, wrongFresh, shortOutput, refusedAnswer, outputAfter}
 use Rattle.responder_rules.proofs.Accepting.{none-refused}
 use Rattle.records_answer.specs.Step.{Stepped, rowInRecords, refuse, answerStep}
 use Rattle.records_answer.specs.Answer.{stepOf, answerRecords}
@@ -58,7 +58,7 @@ module _ (g : Given) (rs : List Record) (out : List ℕ) where
 
   -- an answer whose step goes on
   pub answer-done : stepOf g rs out ≡ done g rs → answerRecords g rs out
-      ≡ record { refusal = 0; size = length (g .request); out = answerOctets g (usedOf rs) ++ drop (length (g .request)) out; records = done g rs .records }
+      ≡ record { refusal = 0; size = length (g .request); out = outputAfter g (usedOf rs) out; records = done g rs .records }
   unfolding answerRecords
   answer-done e = rw e
 

@@ -1,13 +1,13 @@
 -- Document 01, "Responder and store": the answer to a request where the row is a slice of records, for any records lent.
 use mathlib.Core.Bool.{cond}
-use mathlib.Core.List.{List, _++_}
+use mathlib.Core.List.{List}
 use Prim.Native.Nat.{ℕ}
 use lib.Dec.{eqb}
-use lib.ListN.{length, drop}
+use lib.ListN.{length}
 use Rattle.header.specs.Header.{reading}
 use Rattle.header.specs.declared.Reading.{Reading}
 use Rattle.store_rules.specs.Row.{Record, usedOf}
-use Rattle.responder_rules.specs.Answer.{Given, asking, answerOctets, firstRefusal, shortOutput, numbersOf}
+use Rattle.responder_rules.specs.Answer.{Given, asking, outputAfter, firstRefusal, shortOutput, numbersOf}
 use Rattle.responder_rules.specs.declared.Answered.{Answered}
 use Rattle.records_answer.specs.Step.{Stepped, answerStep}
 
@@ -32,5 +32,5 @@ outcome r out rs = record { refusal = numbersOf r .0; size = numbersOf r .1; out
 unfoldable pub answerRecords : Given → List Record → (out : List ℕ) → Outcome
 answerRecords g rs out =
     cond (eqb (stepOf g rs out .refusal) 0)
-    (record { refusal = 0; size = length (g .request); out = answerOctets g (usedOf rs) ++ drop (length (g .request)) out; records = stepOf g rs out .records })
+    (record { refusal = 0; size = length (g .request); out = outputAfter g (usedOf rs) out; records = stepOf g rs out .records })
     (record { refusal = stepOf g rs out .refusal; size = 0; out = out; records = stepOf g rs out .records })

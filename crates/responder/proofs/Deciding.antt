@@ -13,7 +13,7 @@ use Rattle.header.specs.Header.{headerOctets}
 use Rattle.header.specs.declared.Header.{Header}
 use Rattle.chain.specs.Content.{chainOctets}
 use Rattle.store_rules.specs.Row.{Record, storeOctets, sizeOf, rowOf, wrongStore}
-use Rattle.responder_rules.specs.Answer.{Given, asking, savedTime, answerHeader, sentHeader, sentFields, answerOctets, rowAfter, firstRefusal, wrongFresh, shortOutput, answerRefusal, outcome, answerOf}
+use Rattle.responder_rules.specs.Answer.{Given, asking, savedTime, answerHeader, sentHeader, sentFields, answerOctets, outputAfter, rowAfter, firstRefusal, wrongFresh, shortOutput, answerRefusal, outcome, answerOf}
 use Rattle.responder_rules.specs.declared.Answered.the-variants.{Written, Refused}
 use Rattle.responder_rules.proofs.Accepting.{answer-written, answer-refused}
 
@@ -47,7 +47,7 @@ module _ (g : Given) (store out : List ℕ) where
         pub refused-room : length out < length (g .request) → outcome (Refused 11) out store ≡ answerOf g store out
         refused-room h = refused 11 (λ q. absurd (omega arith)) (later ∙ rw (e, lt-ltb _ _ h))
 
-        pub answered : length (g .request) ≤ length out → {o s : List ℕ} → o ≡ answerOctets g (rowOf store) ++ drop (length (g .request)) out
+        pub answered : length (g .request) ≤ length out → {o s : List ℕ} → o ≡ outputAfter g (rowOf store) out
             → s ≡ storeOctets (sizeOf store) (rowAfter (asking g) (g .freshCookie) (sizeOf store) (rowOf store))
             → outcome (Written (length (g .request))) o s ≡ answerOf g store out
         answered h p q = rw (p, q) (sym (answer-written g store out (later ∙ rw (e, le-ltb _ _ h))))

@@ -1,7 +1,7 @@
 -- When an answer is refused, and what it returns where it is and where it is not. Assumes nothing.
 use mathlib.Core.Path.{_≡_, refl, ap, _∙_}
 use mathlib.Core.Bool.{Bool, true, false, cond, _&&_, _||_}
-use mathlib.Core.List.{List, _++_}
+use mathlib.Core.List.{List}
 use Prim.Native.Nat.{ℕ, zero, suc}
 use native.Mathlib.Omega.{arith}
 use borrow.Author.Tests.{ltb-false, le-ltb, eq-eqb, eqb-true, eqb-false, ne-eqb, not-false}
@@ -10,7 +10,7 @@ use lib.ListN.{length, take, drop}
 use lib.Seq.{take-at}
 use Rattle.store_rules.specs.Row.{Record, held, rowOf, storeOctets, sizeOf, wrongStore}
 use Rattle.octets.proofs.Tests.{or-none}
-use Rattle.responder_rules.specs.Answer.{Given, Outcome, asking, wantsInterleaved, rowAfter, wrongArguments, firstRefusal, wrongFresh, shortOutput, refusedAnswer, answerRefusal, answerOctets, answerOf}
+use Rattle.responder_rules.specs.Answer.{Given, Outcome, asking, wantsInterleaved, rowAfter, wrongArguments, firstRefusal, wrongFresh, shortOutput, refusedAnswer, answerRefusal, answerOctets, outputAfter, answerOf}
 use Rattle.responder_rules.specs.Claim.{Accepted, InRange, AnswerClaim, Answerable}
 use Rattle.responder_rules.proofs.Answers.{answer-size, answer-claim}
 
@@ -105,7 +105,7 @@ answer-stored g store out e = answerable g store out e .right
 pub answer-written : (g : Given) (store out : List ℕ) → answerRefusal g store out ≡ 0 → answerOf g store out ≡ record {
   refusal = 0;
   size = length (g .request);
-  out = answerOctets g (rowOf store) ++ drop (length (g .request)) out;
+  out = outputAfter g (rowOf store) out;
   store = storeOctets (sizeOf store) (rowAfter (asking g) (g .freshCookie) (sizeOf store) (rowOf store));
 }
 unfolding answerOf

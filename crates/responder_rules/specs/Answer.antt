@@ -91,6 +91,10 @@ sentFields g = answerFields (g .request) (g .filter) (g .information)
 unfoldable pub answerOctets : Given → List Record → List ℕ
 answerOctets g row = headerOctets (sentHeader g row) ++ chainOctets (sentFields g)
 
+-- the output after an answer: past the octets written it stays as it was
+abbrev pub outputAfter : Given → List Record → (out : List ℕ) → List ℕ
+outputAfter g row out = answerOctets g row ++ drop (length (g .request)) out
+
 -- the row after an answer: the record whose time is sent leaves; then the fresh cookie joins the end
 abbrev pub rowAfter : (asked : Header) (freshCookie n : ℕ) → List Record → List Record
 rowAfter asked freshCookie n row =
@@ -108,6 +112,7 @@ abbrev pub argumentsRefusal : (request filter information : List ℕ) (leap rece
 argumentsRefusal request filter information leap receive estimate =
     cond (wrongArguments filter information leap receive estimate) 6 (soundRefusal request 3)
 
+-- the same of what an answer is given
 abbrev pub firstRefusal : Given → ℕ
 firstRefusal g = argumentsRefusal (g .request) (g .filter) (g .information) (g .server .leap) (g .receive) (g .estimate)
 
@@ -153,7 +158,7 @@ answerOf g store out =
     (record {
       refusal = 0;
       size = length (g .request);
-      out = answerOctets g (rowOf store) ++ drop (length (g .request)) out;
+      out = outputAfter g (rowOf store) out;
       store = storeOctets (sizeOf store) (rowAfter (asking g) (g .freshCookie) (sizeOf store) (rowOf store));
     })
     (record { refusal = answerRefusal g store out; size = 0; out = out; store = store })
