@@ -6,7 +6,7 @@ use Prim.Native.Nat.{ℕ, zero, suc}
 use native.Mathlib.Omega.{arith}
 use borrow.Author.Tests.{ltb-false, le-ltb, eq-eqb, eqb-true, eqb-false, ne-eqb, not-false}
 use lib.Dec.{eqb}
-use lib.ListN.{length, take, drop}
+use lib.ListN.{length, take}
 use lib.Seq.{take-at}
 use Rattle.store_rules.specs.Row.{Record, held, rowOf, storeOctets, sizeOf, wrongStore}
 use Rattle.octets.proofs.Tests.{or-none}
@@ -130,4 +130,4 @@ answer-given g store out e r = answer-claim g (rowOf store) (answer-accepted g s
 pub answer-sent : (g : Given) (store out : List ℕ) → answerRefusal g store out ≡ 0 → let w = answerOf g store out in take (w .size) (w .out) ≡ answerOctets g (rowOf store)
 answer-sent g store out e =
     ap (λ (w : Outcome). take (w .size) (w .out)) (answer-written g store out e)
-    ∙ take-at (answerOctets g (rowOf store)) (drop (length (g .request)) out) (length (g .request)) (answer-size g (answer-accepted g store out e) (rowOf store))
+    ∙ take-at (answerOctets g (rowOf store)) _ (length (g .request)) (answer-size g (answer-accepted g store out e) (rowOf store))
