@@ -1,56 +1,24 @@
 -- An answer on records is the answer on their octets. Assumes nothing.
 use mathlib.Core.Path.{_≡_, refl, sym, ap, _∙_}
-use mathlib.Core.Bool.{Bool, true, false, cond, not, _||_}
-use mathlib.Core.List.{List, _++_}
-use Prim.Native.Nat.{ℕ, zero, suc}
-use native.Mathlib.Omega.{arith}
-use borrow.Author.Tests.{ne-eqb}
-use lib.Dec.{eqb}
-use lib.ListN.{length, drop}
-use Rattle.chain.specs.Chain.{soundRefusal}
+use mathlib.Core.List.{List}
+use Prim.Native.Nat.{ℕ}
+use lib.ListN.{length}
 use Rattle.store_rules.specs.Row.{Record, usedOf, rowOctets, storeOctets}
 use Rattle.store_rules.proofs.Written.{store-row}
-use Rattle.records.specs.Records.{Fit, wrongRecords}
+use Rattle.records.specs.Records.{Fit}
 use Rattle.records.proofs.Encoding.{size-is, row-is, wrong-is}
-use Rattle.responder_rules.specs.Answer.{Given, asking, rowAfter, wrongArguments, answerOctets, answerRefusal, Outcome as OctetsOutcome, answerOf}
-use Rattle.responder_rules.proofs.Accepting.{answer-written, answer-refused}
-use Rattle.records_answer.specs.Step.{Stepped, refuse, answerStep}
-use Rattle.records_answer.specs.Answer.{firstRefusal, shortOutput, stepOf, Outcome, answerRecords}
+use Rattle.responder_rules.specs.Answer.{Given, asking, rowAfter, firstRefusal, shortOutput, outputAfter, answerRefusal, Outcome as OctetsOutcome, answerOf}
+use Rattle.responder_rules.proofs.Accepting.{by-refusal, answer-written, answer-refused}
+use Rattle.records_answer.specs.Step.{Stepped}
+use Rattle.records_answer.specs.Answer.{stepOf, Outcome, answerRecords}
 use Rattle.records_answer.specs.Same.{Returned, answered}
-use Rattle.records_answer.proofs.Ways.{Way, goes, stops, done, eight, stepAt, way, answer-done, answer-stopped}
+use Rattle.records_answer.proofs.Ways.{Way, goes, stops, done, stepRefusal, step-is, way, answer-done, answer-stopped}
 
 module _ (g : Given) (rs : List Record) (f : Fit rs) (out : List ℕ) where
-  -- the refusals after the first
-  abbrev later : ℕ
-  later = cond (eight g rs out) 8 (cond (shortOutput g out) 11 0)
-
-  refusal-at : (n : ℕ) → cond (wrongRecords rs) 6 (cond (not (eqb n 0)) n later) ≡ stepAt g rs out n .refusal
-  unfolding answerStep
-  refusal-at zero = go (wrongRecords rs) (eight g rs out) (shortOutput g out)
-    where
-      go : (six e s : Bool) → cond six 6 (cond e 8 (cond s 11 0)) ≡ cond six (refuse 6 rs) (cond e (refuse 8 rs) (cond s (refuse 11 rs) (done g rs))) .refusal
-      go true e s = refl
-      go false true s = refl
-      go false false true = refl
-      go false false false = refl
-  refusal-at (suc n) = rw (ne-eqb (suc n) 0 (λ k. omega (arith, k))) (go (wrongRecords rs))
-    where
-      go : (six : Bool) → cond six 6 (suc n) ≡ cond six (refuse 6 rs) (refuse (suc n) rs) .refusal
-      go true = refl
-      go false = refl
-
   -- the refusal is the octets'
   refusal-same : answerRefusal g (rowOctets rs) out ≡ stepOf g rs out .refusal
   unfolding answerRefusal
-  refusal-same = rw (wrong-is rs f, row-is rs f) (go (wrongRecords rs) (wrongArguments (g .filter) (g .information) (g .server .leap) (g .receive) (g .estimate)) ∙ refusal-at (firstRefusal g))
-    where
-      sound : ℕ
-      sound = soundRefusal (g .request) 3
-
-      go : (six arguments : Bool) → cond (six || arguments) 6 (cond (not (eqb sound 0)) sound later) ≡ cond six 6 (cond (not (eqb (cond arguments 6 sound) 0)) (cond arguments 6 sound) later)
-      go true a = refl
-      go false true = refl
-      go false false = refl
+  refusal-same = rw (wrong-is rs f, row-is rs f) (sym (ap (λ (s : Stepped). s .refusal) (step-is g rs out) ∙ by-refusal (λ (s : Stepped). s .refusal) (stepRefusal g rs out) refl refl))
 
   -- what the octets return and leave, and what the records do
   abbrev ofOctets : OctetsOutcome → Returned × List ℕ
@@ -69,7 +37,7 @@ module _ (g : Given) (rs : List Record) (f : Fit rs) (out : List ℕ) where
       go : Way g rs (firstRefusal g) (shortOutput g out) (stepOf g rs out) → ofOctets (answerOf g (rowOctets rs) out) ≡ ofRecords (answerRecords g rs out)
       go (goes n s e) =
           ap ofOctets (answer-written g (rowOctets rs) out (refusal-same ∙ ap (λ (s : Stepped). s .refusal) e) ∙ rw (row-is rs f, size-is rs))
-          ∙ ap (λ (l : List ℕ). (answered 0 (length (g .request)) (answerOctets g (usedOf rs) ++ drop (length (g .request)) out), l)) octets-left
+          ∙ ap (λ (l : List ℕ). (answered 0 (length (g .request)) (outputAfter g (usedOf rs) out), l)) octets-left
           ∙ sym (ap ofRecords (answer-done g rs out e))
       go (stops z e) =
           ap ofOctets (answer-refused g (rowOctets rs) out (λ k. z (sym refusal-same ∙ k)))

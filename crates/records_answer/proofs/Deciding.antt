@@ -2,46 +2,22 @@
 use mathlib.Core.Path.{_≡_, refl, sym, ap, _∙_}
 use mathlib.Core.List.{List, [], _++_}
 use Prim.Native.Nat.{ℕ}
-use borrow.Author.Tests.{ltb-false, eq-eqb, eqb-true, ne-eqb, not-false}
-use lib.Dec.{eqb}
+use borrow.Author.Tests.{eq-eqb, ne-eqb}
 use lib.ListN.{length, drop}
 use Rattle.header.specs.Header.{reading}
-use Rattle.chain.specs.Chain.{soundRefusal}
 use Rattle.store_rules.specs.Row.{Record, usedOf}
-use Rattle.octets.proofs.Tests.{or-none}
-use Rattle.responder_rules.specs.Answer.{Given, asking, savedTime, wrongArguments, answerOctets}
+use Rattle.responder_rules.specs.Answer.{Given, asking, savedTime, answerOctets, firstRefusal, shortOutput}
 use Rattle.responder_rules.specs.declared.Answered.{Answered}
-use Rattle.responder_rules.specs.declared.Answered.the-variants.{Written, Refused}
-use Rattle.responder_rules.specs.Claim.{Accepted}
-use Rattle.responder_rules.proofs.Accepting.{not-given}
+use Rattle.responder_rules.proofs.Accepting.{first-pass}
 use Rattle.records_answer.specs.Step.{Stepped, stepped}
-use Rattle.records_answer.specs.Answer.{firstRefusal, checkedRequest, shortOutput, stepOf, Outcome, outcome, answerRecords}
+use Rattle.records_answer.specs.Answer.{checkedRequest, stepOf, Outcome, outcome, answerRecords}
 use Rattle.records_answer.specs.Sent.{Ready, sentOctets, sentBy}
 use Rattle.records_answer.specs.declared.Step.{Step}
 use Rattle.records_answer.proofs.Ways.{Way, goes, stops, done, way, answer-done, answer-stopped}
 
--- a request and arguments that are not refused
-accepted : (g : Given) → firstRefusal g ≡ 0 → Accepted g
-accepted g e =
-    let first = not-given (wrongArguments (g .filter) (g .information) (g .server .leap) (g .receive) (g .estimate)) 5 (soundRefusal (g .request) 3) e in
-    let four = or-none _ (eqb (g .estimate) 0) (first .0) .0 in
-    let three = or-none _ (eqb (g .receive) 0) four .0 in
-    let two = or-none _ _ three in
-    let one = or-none _ _ (two .0) in
-    record {
-      request = first .1;
-      filter = eqb-true _ _ (not-false _ (one .0));
-      information = eqb-true _ _ (not-false _ (one .1));
-      leap = ltb-false _ _ (two .1);
-    }
-
 -- the same with other records
 abbrev leaving : List Record → Outcome → Outcome
 leaving l w = record { refusal = w .refusal; size = w .size; out = w .out; records = l }
-
-outcome-leaving : (r : Answered) (o : List ℕ) (l : List Record) → outcome r o l ≡ leaving l (outcome r o [])
-outcome-leaving (Written n) o l = refl
-outcome-leaving (Refused n) o l = refl
 
 -- the octets that are sent
 octets-sent : (g : Given) (rs : List Record) → sentOctets g (savedTime (asking g) (usedOf rs)) ≡ answerOctets g (usedOf rs)
@@ -56,11 +32,11 @@ module _ (g : Given) (rs : List Record) (out : List ℕ) (step : Step) (l : List
   ready z = go (way g rs out)
     where
       go : Way g rs (firstRefusal g) (shortOutput g out) (stepOf g rs out) → Ready (checkedRequest g) g out
-      go (goes n s q) = record { header = ap (λ (m : ℕ). reading m (asking g)) n; accepted = accepted g n; room = s }
+      go (goes n s q) = record { header = ap (λ (m : ℕ). reading m (asking g)) n; accepted = first-pass g n .accepted; room = s }
       go (stops n q) = absurd (n (sym number ∙ z))
 
   pub answered : (r : Answered) (o : List ℕ) → outcome r o [] ≡ sentBy g step out → outcome r o l ≡ answerRecords g rs out
-  answered r o w = outcome-leaving r o l ∙ ap (leaving l) w ∙ go (way g rs out)
+  answered r o w = ap (leaving l) w ∙ go (way g rs out)
     where
       go : Way g rs (firstRefusal g) (shortOutput g out) (stepOf g rs out) → leaving l (sentBy g step out) ≡ answerRecords g rs out
       go (goes n s q) =

@@ -12,9 +12,9 @@ use Rattle.header.specs.declared.Reading.{Reading}
 use Rattle.header.specs.declared.Reading.the-variants.{Fields, Refused}
 use Rattle.store_rules.specs.Row.{Record, held, reported, without, joined, unused, usedOf}
 use Rattle.records.specs.Records.{unusedRecord, Fit, wrongCount, wrongRecords, clearRecords, reportRefusal, reportRecords, leaveRecords, withCookieAtFree, joinRecords}
-use Rattle.responder_rules.specs.Answer.{Given, wantsInterleaved, savedTime, wrongFresh, rowAfter}
+use Rattle.responder_rules.specs.Answer.{Given, wantsInterleaved, savedTime, rowAfter, wrongFresh, shortOutput, refusedAnswer}
 use Rattle.records_answer.specs.Step.{rowInRecords, refuse, answerStep}
-use Rattle.records_answer.specs.Answer.{Outcome, checkedRequest, shortOutput, stepOf, answerRecords}
+use Rattle.records_answer.specs.Answer.{Outcome, checkedRequest, stepOf, answerRecords}
 use Rattle.records_answer.specs.Same.{Call, clear, wrong, find, time, report, leave, join, answer, onRecords, Typed}
 
 fit-append : (a b : List Record) → Fit a → Fit b → Fit (a ++ b)
@@ -116,21 +116,15 @@ fit-after asked freshCookie n row h f =
 
 fit-answer : (request : Reading) (short : Bool) (freshCookie : ℕ) (rs : List Record) → freshCookie < 2 ^ 64 → Fit rs → Fit (answerStep request short freshCookie rs .records)
 unfolding answerStep
-fit-answer (Refused n) short freshCookie rs h f = go (wrongRecords rs)
-  where
-    go : (six : Bool) → Fit (cond six (refuse 6 rs) (refuse n rs) .records)
-    go true = f
-    go false = f
-fit-answer (Fields asked) short freshCookie rs h f = go (wrongRecords rs) (wrongFresh asked freshCookie (usedOf rs)) short
+fit-answer (Refused n) short freshCookie rs h f = f
+fit-answer (Fields asked) short freshCookie rs h f = let n = refusedAnswer (wrongRecords rs) 0 (wrongFresh asked freshCookie (usedOf rs)) short in go n (eqb n 0)
   where
     row : List Record
     row = rowAfter asked freshCookie (length rs) (usedOf rs)
 
-    go : (six eight eleven : Bool) → Fit (cond six (refuse 6 rs) (cond eight (refuse 8 rs) (cond eleven (refuse 11 rs) (record { refusal = 0; saved = savedTime asked (usedOf rs); records = rowInRecords (length rs) row }))) .records)
-    go true c d = f
-    go false true d = f
-    go false false true = f
-    go false false false = fit-append row (replicate (length rs - length row) unusedRecord) (fit-after asked freshCookie (length rs) (usedOf rs) h (fit-used rs f)) (fit-unused (length rs - length row))
+    go : (n : ℕ) (b : Bool) → Fit (cond b (record { refusal = 0; saved = savedTime asked (usedOf rs); records = rowInRecords (length rs) row }) (refuse n rs) .records)
+    go n true = fit-append row (replicate (length rs - length row) unusedRecord) (fit-after asked freshCookie (length rs) (usedOf rs) h (fit-used rs f)) (fit-unused (length rs - length row))
+    go n false = f
 
 -- an answer leaves the records of its step
 pub answer-records : (g : Given) (rs : List Record) (out : List ℕ) → answerRecords g rs out .records ≡ stepOf g rs out .records

@@ -13,8 +13,9 @@ use Rattle.header.specs.declared.Reading.the-variants.{Fields, Refused}
 use Rattle.chain.specs.Chain.{soundRefusal}
 use Rattle.chain.proofs.Datagrams.{header-passes}
 use Rattle.answer_fields.specs.Fields.{fieldsWritten}
-use Rattle.responder_rules.specs.Answer.{Given, asking, answerHeader}
+use Rattle.responder_rules.specs.Answer.{Given, asking, answerHeader, wrongArguments, argumentsRefusal}
 use Rattle.responder_rules.specs.declared.Answered.the-variants.{Written, Refused as RefusedAnswer}
+use Rattle.responder_rules.proofs.Accepting.{not-given}
 use Rattle.responder.proofs.Writing.{header-put, answer-put}
 use Rattle.responder.proofs.Deciding.{lent-size, lent-back}
 use Rattle.records_answer.specs.Answer.{outcome}
@@ -27,9 +28,12 @@ pub refused-reading : (n m : ℕ) (h : Header) → n ≡ m → (n ≡ 0 → ⊥)
 refused-reading n zero h e z = absurd (z e)
 refused-reading n (suc m) h e z = ap Refused e
 
--- a sound request's header is read
-pub sound-reading : (s : List ℕ) (n : ℕ) → n ≡ soundRefusal s 3 → n ≡ 0 → reading (refusal s 3) (headerOf s) ≡ reading (soundRefusal s 3) (headerOf s)
-sound-reading s n e z = let q = sym e ∙ z in rw (header-passes s 3 q, q)
+-- a request's header is read where neither it nor the arguments are refused
+pub sound-reading : (s filter information : List ℕ) (leap receive estimate n : ℕ) → n ≡ argumentsRefusal s filter information leap receive estimate → n ≡ 0
+    → reading (refusal s 3) (headerOf s) ≡ reading (argumentsRefusal s filter information leap receive estimate) (headerOf s)
+sound-reading s filter information leap receive estimate n e z =
+    let q = sym e ∙ z in
+    rw (header-passes s 3 (not-given (wrongArguments filter information leap receive estimate) 5 (soundRefusal s 3) q .1), q)
 
 -- ---- sending
 

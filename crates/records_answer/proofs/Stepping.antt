@@ -19,7 +19,7 @@ use Rattle.store_rules.proofs.Kept.{length-without, without-absent}
 use Rattle.records.specs.Records.{unusedRecord, wrongRecords, leaveRecords, joinRecords}
 use Rattle.records.proofs.Moves.{leave-past}
 use Rattle.records.proofs.Sounds.{Sound, held-row, time-row, time-at, right-sound}
-use Rattle.responder_rules.specs.Answer.{wantsInterleaved, savedTime, rowAfter, wrongFresh}
+use Rattle.responder_rules.specs.Answer.{wantsInterleaved, savedTime, rowAfter, wrongFresh, refusedAnswer}
 use Rattle.records_answer.specs.Step.{Stepped, stepped, rowInRecords, refuse, answerStep}
 use Rattle.records_answer.specs.Value.{askedCookie, unchangedPlan, keepingPlan, planFor, planOf}
 use Rattle.records_answer.specs.declared.value.Plan.{Plan}
@@ -95,14 +95,13 @@ module _ (rs : List Record) (freshCookie : ServerCookie) where
         go true = rw time-found (ap (λ (l : List Record). record { refusal = 0; saved = time; records = l }) (joins (eqb time 0) refl))
         go false = ap (refuse 0) (right-row rs w)
 
-    planned : (short : Bool) → stepBy (planFor asked short freshCookie n (indexOf f rs) (indexOf cookie rs) time) ≡ cond (wrongFresh asked f row) (refuse 8 rs) (cond short (refuse 11 rs) done)
-    planned short = rw fresh-test (go (wrongFresh asked f row) short)
+    -- what a refusal makes of the plan, and of the step
+    planned : (refusal : ℕ) → stepBy (cond (eqb refusal 0) (keepingPlan (wantsInterleaved asked) n (indexOf cookie rs) time) (unchangedPlan refusal n)) ≡ cond (eqb refusal 0) done (refuse refusal rs)
+    planned refusal = go (eqb refusal 0)
       where
-        go : (eight eleven : Bool) → stepBy (cond eight (unchangedPlan 8 n) (cond eleven (unchangedPlan 11 n) (keepingPlan (wantsInterleaved asked) n (indexOf cookie rs) time)))
-            ≡ cond eight (refuse 8 rs) (cond eleven (refuse 11 rs) done)
-        go true s = refl
-        go false true = refl
-        go false false = keeps
+        go : (b : Bool) → stepBy (cond b (keepingPlan (wantsInterleaved asked) n (indexOf cookie rs) time) (unchangedPlan refusal n)) ≡ cond b done (refuse refusal rs)
+        go true = keeps
+        go false = refl
 
   -- what was found in the records
   abbrev pub planOn : Reading → (short : Bool) → Plan
@@ -112,16 +111,14 @@ module _ (rs : List Record) (freshCookie : ServerCookie) where
 
   pub plan-steps : (request : Reading) (short : Bool) → stepBy (planOn request short) ≡ answerStep request short (freshCookie .0) rs
   unfolding answerStep
-  plan-steps (Refused number) short = go (wrongRecords rs)
-    where
-      go : (six : Bool) → stepBy (cond six (unchangedPlan 6 (length rs)) (unchangedPlan number (length rs))) ≡ cond six (refuse 6 rs) (refuse number rs)
-      go true = refl
-      go false = refl
+  plan-steps (Refused number) short = refl
   plan-steps (Fields asked) short = go (wrongRecords rs) refl
     where
-      go : (six : Bool) → wrongRecords rs ≡ six
-          → stepBy (cond six (unchangedPlan 6 (length rs)) (planFor asked short freshCookie (length rs) (indexOf (freshCookie .0) rs) (indexOf (asked .«server_cookie» .0) rs) (getD rs (indexOf (asked .«server_cookie» .0) rs) unusedRecord .time)))
-          ≡ cond six (refuse 6 rs) (cond (wrongFresh asked (freshCookie .0) (usedOf rs)) (refuse 8 rs) (cond short (refuse 11 rs)
-          (record { refusal = 0; saved = savedTime asked (usedOf rs); records = rowInRecords (length rs) (rowAfter asked (freshCookie .0) (length rs) (usedOf rs)) })))
+      at : ℕ
+      at = indexOf (asked .«server_cookie» .0) rs
+
+      go : (six : Bool) → wrongRecords rs ≡ six → stepBy (planFor six asked short freshCookie (length rs) (indexOf (freshCookie .0) rs) at (getD rs at unusedRecord .time))
+          ≡ let n = refusedAnswer six 0 (wrongFresh asked (freshCookie .0) (usedOf rs)) short in
+          cond (eqb n 0) (record { refusal = 0; saved = savedTime asked (usedOf rs); records = rowInRecords (length rs) (rowAfter asked (freshCookie .0) (length rs) (usedOf rs)) }) (refuse n rs)
       go true e = refl
-      go false e = planned e asked short
+      go false e = rw (fresh-test e asked) (planned e asked (refusedAnswer false 0 (wrongFresh asked (freshCookie .0) (usedOf rs)) short))

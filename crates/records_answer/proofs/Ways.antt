@@ -1,17 +1,19 @@
 -- The step of an answer by its tests, and what the answer then returns. Assumes nothing.
 use mathlib.Core.Path.{_≡_, refl}
 use mathlib.Core.Bool.{Bool, true, false, cond}
-use mathlib.Core.List.{List, _++_}
+use mathlib.Core.List.{List}
 use Prim.Native.Nat.{ℕ, zero, suc}
 use native.Mathlib.Omega.{arith}
-use borrow.Author.Tests.{ne-eqb}
-use lib.ListN.{length, drop}
+use borrow.Author.Tests.{eqb-true, eqb-false, ne-eqb}
+use lib.Dec.{eqb}
+use lib.ListN.{length}
 use Rattle.header.specs.Header.{reading}
 use Rattle.store_rules.specs.Row.{Record, usedOf}
 use Rattle.records.specs.Records.{wrongRecords}
-use Rattle.responder_rules.specs.Answer.{Given, asking, savedTime, rowAfter, wrongFresh, answerOctets}
+use Rattle.responder_rules.specs.Answer.{Given, asking, savedTime, rowAfter, firstRefusal, wrongFresh, shortOutput, refusedAnswer, outputAfter}
+use Rattle.responder_rules.proofs.Accepting.{none-refused}
 use Rattle.records_answer.specs.Step.{Stepped, rowInRecords, refuse, answerStep}
-use Rattle.records_answer.specs.Answer.{firstRefusal, shortOutput, stepOf, answerRecords}
+use Rattle.records_answer.specs.Answer.{stepOf, answerRecords}
 
 module _ (g : Given) (rs : List Record) where
   -- a step that is not refused
@@ -23,35 +25,40 @@ module _ (g : Given) (rs : List Record) where
     goes : first ≡ 0 → short ≡ false → s ≡ done → Way first short s
     stops : (s .refusal ≡ 0 → ⊥) → s .records ≡ rs → Way first short s
 
-  by-tests : (six eight short : Bool) → Way 0 short (cond six (refuse 6 rs) (cond eight (refuse 8 rs) (cond short (refuse 11 rs) done)))
-  by-tests true e s = stops (λ k. omega (arith, k)) refl
-  by-tests false true s = stops (λ k. omega (arith, k)) refl
-  by-tests false false true = stops (λ k. omega (arith, k)) refl
-  by-tests false false false = goes refl refl refl
-
 module _ (g : Given) (rs : List Record) (out : List ℕ) where
-  abbrev pub eight : Bool
-  eight = wrongFresh (asking g) (g .freshCookie) (usedOf rs)
+  abbrev wrongCookie : Bool
+  wrongCookie = wrongFresh (asking g) (g .freshCookie) (usedOf rs)
 
-  -- the step where the first refusal is n
-  abbrev pub stepAt : ℕ → Stepped
-  stepAt n = answerStep (reading n (asking g)) (shortOutput g out) (g .freshCookie) rs
+  -- what the step is refused by
+  abbrev pub stepRefusal : ℕ
+  stepRefusal = refusedAnswer (wrongRecords rs) (firstRefusal g) wrongCookie (shortOutput g out)
 
-  way-at : (n : ℕ) → Way g rs n (shortOutput g out) (stepAt n)
+  step-at : (first : ℕ) → let n = refusedAnswer (wrongRecords rs) first wrongCookie (shortOutput g out) in
+      answerStep (reading first (asking g)) (shortOutput g out) (g .freshCookie) rs ≡ cond (eqb n 0) (done g rs) (refuse n rs)
   unfolding answerStep
-  way-at zero = by-tests g rs (wrongRecords rs) eight (shortOutput g out)
-  way-at (suc n) = go (wrongRecords rs)
+  step-at zero = refl
+  step-at (suc n) = rw (ne-eqb (suc n) 0 (λ k. omega (arith, k))) (go (wrongRecords rs))
     where
-      go : (six : Bool) → Way g rs (suc n) (shortOutput g out) (cond six (refuse 6 rs) (refuse (suc n) rs))
-      go true = stops (λ k. omega (arith, k)) refl
-      go false = stops (λ k. omega (arith, k)) refl
+      go : (six : Bool) → refuse (cond six 6 (suc n)) rs ≡ cond (eqb (cond six 6 (suc n)) 0) (done g rs) (refuse (cond six 6 (suc n)) rs)
+      go true = refl
+      go false = rw (ne-eqb (suc n) 0 (λ k. omega (arith, k)))
+
+  -- the step by its refusal
+  pub step-is : stepOf g rs out ≡ cond (eqb stepRefusal 0) (done g rs) (refuse stepRefusal rs)
+  step-is = step-at (firstRefusal g)
 
   pub way : Way g rs (firstRefusal g) (shortOutput g out) (stepOf g rs out)
-  way = way-at (firstRefusal g)
+  way = rw step-is (go (eqb stepRefusal 0) refl)
+    where
+      go : (b : Bool) → eqb stepRefusal 0 ≡ b → Way g rs (firstRefusal g) (shortOutput g out) (cond b (done g rs) (refuse stepRefusal rs))
+      go true q =
+          let none = none-refused (wrongRecords rs) (firstRefusal g) wrongCookie (shortOutput g out) (eqb-true stepRefusal 0 q) in
+          goes (none .1) (none .3) refl
+      go false q = stops (eqb-false stepRefusal 0 q) refl
 
   -- an answer whose step goes on
   pub answer-done : stepOf g rs out ≡ done g rs → answerRecords g rs out
-      ≡ record { refusal = 0; size = length (g .request); out = answerOctets g (usedOf rs) ++ drop (length (g .request)) out; records = done g rs .records }
+      ≡ record { refusal = 0; size = length (g .request); out = outputAfter g (usedOf rs) out; records = done g rs .records }
   unfolding answerRecords
   answer-done e = rw e
 

@@ -1,29 +1,19 @@
 -- Document 01, "Responder and store": the answer to a request where the row is a slice of records, for any records lent.
-use mathlib.Core.Bool.{Bool, cond}
-use mathlib.Core.List.{List, _++_}
+use mathlib.Core.Bool.{cond}
+use mathlib.Core.List.{List}
 use Prim.Native.Nat.{ℕ}
-use lib.Dec.{eqb, ltb}
-use lib.ListN.{length, drop}
+use lib.Dec.{eqb}
+use lib.ListN.{length}
 use Rattle.header.specs.Header.{reading}
 use Rattle.header.specs.declared.Reading.{Reading}
-use Rattle.chain.specs.Chain.{soundRefusal}
 use Rattle.store_rules.specs.Row.{Record, usedOf}
-use Rattle.responder_rules.specs.Answer.{Given, asking, answerOctets, wrongArguments}
+use Rattle.responder_rules.specs.Answer.{Given, asking, outputAfter, firstRefusal, shortOutput, numbersOf}
 use Rattle.responder_rules.specs.declared.Answered.{Answered}
-use Rattle.responder_rules.specs.declared.Answered.the-variants.{Written, Refused}
 use Rattle.records_answer.specs.Step.{Stepped, answerStep}
-
--- what the arguments and the request are refused by: 6, then 1 to 5
-abbrev pub firstRefusal : Given → ℕ
-firstRefusal g = cond (wrongArguments (g .filter) (g .information) (g .server .leap) (g .receive) (g .estimate)) 6 (soundRefusal (g .request) 3)
 
 -- the header of the request, or what it or the arguments are refused by
 abbrev pub checkedRequest : Given → Reading
 checkedRequest g = reading (firstRefusal g) (asking g)
-
--- the output is shorter than the answer
-abbrev pub shortOutput : Given → (out : List ℕ) → Bool
-shortOutput g out = ltb (length out) (length (g .request))
 
 -- the step of an answer
 abbrev pub stepOf : Given → List Record → (out : List ℕ) → Stepped
@@ -36,13 +26,11 @@ pub record Outcome : Type 0 where
   pub out : List ℕ
   pub records : List Record
 
--- the page's number and value for each case of the call's answer
 abbrev pub outcome : Answered → (out : List ℕ) → List Record → Outcome
-outcome (Written n) out rs = record { refusal = 0; size = n; out = out; records = rs }
-outcome (Refused n) out rs = record { refusal = n; size = 0; out = out; records = rs }
+outcome r out rs = record { refusal = numbersOf r .0; size = numbersOf r .1; out = out; records = rs }
 
 unfoldable pub answerRecords : Given → List Record → (out : List ℕ) → Outcome
 answerRecords g rs out =
     cond (eqb (stepOf g rs out .refusal) 0)
-    (record { refusal = 0; size = length (g .request); out = answerOctets g (usedOf rs) ++ drop (length (g .request)) out; records = stepOf g rs out .records })
+    (record { refusal = 0; size = length (g .request); out = outputAfter g (usedOf rs) out; records = stepOf g rs out .records })
     (record { refusal = stepOf g rs out .refusal; size = 0; out = out; records = stepOf g rs out .records })

@@ -9,9 +9,9 @@ use Rattle.header.specs.Header.{headerOctets}
 use Rattle.header.specs.declared.Reading.{Reading}
 use Rattle.header.specs.declared.Reading.the-variants.{Fields}
 use Rattle.chain.specs.Content.{chainOctets}
-use Rattle.responder_rules.specs.Answer.{Given, asking, answerHeader, sentFields}
+use Rattle.responder_rules.specs.Answer.{Given, asking, answerHeader, sentFields, shortOutput}
 use Rattle.responder_rules.specs.Claim.{Accepted}
-use Rattle.records_answer.specs.Answer.{shortOutput, Outcome}
+use Rattle.records_answer.specs.Answer.{Outcome}
 use Rattle.records_answer.specs.declared.Step.{Step}
 
 -- what holds where the step is not refused

@@ -1,13 +1,14 @@
 -- The one step that an answer makes on the records, for any records lent. The row's rules are those of `store_rules` and `responder_rules`.
-use mathlib.Core.Bool.{Bool, cond}
+use mathlib.Core.Bool.{Bool, false, cond}
 use mathlib.Core.List.{List, _++_}
 use Prim.Native.Nat.{ℕ, _-_}
+use lib.Dec.{eqb}
 use lib.ListN.{length, replicate}
 use Rattle.header.specs.declared.Reading.{Reading}
 use Rattle.header.specs.declared.Reading.the-variants.{Fields, Refused}
 use Rattle.store_rules.specs.Row.{Record, usedOf}
 use Rattle.records.specs.Records.{unusedRecord, wrongRecords}
-use Rattle.responder_rules.specs.Answer.{savedTime, rowAfter, wrongFresh}
+use Rattle.responder_rules.specs.Answer.{savedTime, rowAfter, wrongFresh, refusedAnswer}
 use Rattle.records_answer.specs.declared.Step.{Step}
 
 -- a row in n records: the used ones first
@@ -28,16 +29,16 @@ stepped r rs = record { refusal = r .refusal; saved = r .saved; records = rs }
 abbrev pub refuse : ℕ → List Record → Stepped
 refuse n rs = record { refusal = n; saved = 0; records = rs }
 
--- `request` is its header, or what it or the arguments are refused by (6, then 1 to 5); `short`: the output is shorter than the answer.
--- The records' 6 stands before those, 8 after them, and the records change only once 11 is decided
+-- `request` is its header, or what it or the arguments are refused by (6, then 1 to 5): then 8 and 11 are not looked at. `short`: the output
+-- is shorter than the answer. The records change only where nothing refuses
 unfoldable pub answerStep : (request : Reading) (short : Bool) (freshCookie : ℕ) → List Record → Stepped
-answerStep (Refused n) short freshCookie rs = cond (wrongRecords rs) (refuse 6 rs) (refuse n rs)
+answerStep (Refused n) short freshCookie rs = refuse (refusedAnswer (wrongRecords rs) n false false) rs
 answerStep (Fields asked) short freshCookie rs =
-    cond (wrongRecords rs) (refuse 6 rs)
-    (cond (wrongFresh asked freshCookie (usedOf rs)) (refuse 8 rs)
-    (cond short (refuse 11 rs)
+    let n = refusedAnswer (wrongRecords rs) 0 (wrongFresh asked freshCookie (usedOf rs)) short in
+    cond (eqb n 0)
     (record {
       refusal = 0;
       saved = savedTime asked (usedOf rs);
       records = rowInRecords (length rs) (rowAfter asked freshCookie (length rs) (usedOf rs));
-    })))
+    })
+    (refuse n rs)

@@ -6,7 +6,7 @@ use Rattle.header.specs.declared.Header.{Header}
 use Rattle.header.specs.declared.ServerCookie.{ServerCookie}
 use Rattle.header.specs.declared.Reading.{Reading}
 use Rattle.header.specs.declared.Reading.the-variants.{Fields, Refused}
-use Rattle.responder_rules.specs.Answer.{wantsInterleaved}
+use Rattle.responder_rules.specs.Answer.{wantsInterleaved, refusedAnswer}
 use Rattle.records_answer.specs.declared.value.Plan.{Plan}
 
 -- the server cookie of a request; 0 where it is refused
@@ -23,18 +23,13 @@ abbrev pub keepingPlan : (wants : Bool) (n at time : ℕ) → Plan
 keepingPlan true n at time = record { step = record { refusal = 0; saved = time }; unchanged = false; leaving = cond (eqb time 0) n at }
 keepingPlan false n at time = unchangedPlan 0 n
 
--- a request that is not refused: the fresh cookie and the request's stand at `freshAt` and `at` of n records, or past the end
-abbrev pub planFor : (asked : Header) (short : Bool) (freshCookie : ServerCookie) (n freshAt at time : ℕ) → Plan
-planFor asked short freshCookie n freshAt at time =
-    cond (wantsInterleaved asked && (eqb (freshCookie .0) 0 || ltb freshAt n)) (unchangedPlan 8 n)
-    (cond short (unchangedPlan 11 n)
-    (keepingPlan (wantsInterleaved asked) n at time))
+-- a request with its header: the fresh cookie and the request's stand at `freshAt` and `at` of n records, or past the end
+abbrev pub planFor : (wrong : Bool) (asked : Header) (short : Bool) (freshCookie : ServerCookie) (n freshAt at time : ℕ) → Plan
+planFor wrong asked short freshCookie n freshAt at time =
+    let refusal = refusedAnswer wrong 0 (wantsInterleaved asked && (eqb (freshCookie .0) 0 || ltb freshAt n)) short in
+    cond (eqb refusal 0) (keepingPlan (wantsInterleaved asked) n at time) (unchangedPlan refusal n)
 
 -- any request
-abbrev pub planFrom : (request : Reading) (short : Bool) (freshCookie : ServerCookie) (n freshAt at time : ℕ) → Plan
-planFrom (Fields asked) short freshCookie n freshAt at time = planFor asked short freshCookie n freshAt at time
-planFrom (Refused number) short freshCookie n freshAt at time = unchangedPlan number n
-
--- the records' 6 stands first
 abbrev pub planOf : (wrong : Bool) (request : Reading) (short : Bool) (freshCookie : ServerCookie) (n freshAt at time : ℕ) → Plan
-planOf wrong request short freshCookie n freshAt at time = cond wrong (unchangedPlan 6 n) (planFrom request short freshCookie n freshAt at time)
+planOf wrong (Fields asked) short freshCookie n freshAt at time = planFor wrong asked short freshCookie n freshAt at time
+planOf wrong (Refused number) short freshCookie n freshAt at time = unchangedPlan (refusedAnswer wrong number false false) n

@@ -5,11 +5,9 @@ use header::ServerCookie;
 use responder_rules::Answered;
 use responder_rules::Server;
 ghost use mathlib.Core.Path.{_≡_};
-ghost use mathlib.Core.Bool.{cond};
 ghost use mathlib.Core.List.{[]};
 ghost use Rattle.header.specs.Header.{headerOf, reading};
-ghost use Rattle.chain.specs.Chain.{soundRefusal};
-ghost use Rattle.responder_rules.specs.Answer.{wrongArguments};
+ghost use Rattle.responder_rules.specs.Answer.{argumentsRefusal};
 ghost use Rattle.records_answer.specs.Answer.{outcome};
 ghost use Rattle.records_answer.specs.Sent.{Ready, sentBy};
 
@@ -22,18 +20,10 @@ pub(crate) fn checked(
     receive: u64,
     estimate: u64,
 ) -> Reading
-    ensures { λ r. ⌜ r ≡ reading (cond (wrongArguments (now (filter .entry)) (now (information .entry)) leap receive estimate) 6 (soundRefusal (now (request .entry)) 3))
+    ensures { λ r. ⌜ r ≡ reading (argumentsRefusal (now (request .entry)) (now (filter .entry)) (now (information .entry)) leap receive estimate)
         (headerOf (now (request .entry))) ⌝ }
 {
-    if (filter.len() != 512)
-        | (information.len() != 4)
-        | (3 < leap)
-        | (receive == 0)
-        | (estimate == 0)
-    {
-        return Reading::Refused(6);
-    }
-    let number = chain::sound(request, 3);
+    let number = responder::check(request, filter, information, leap, receive, estimate);
     if number != 0 {
         return Reading::Refused(number);
     }

@@ -5,6 +5,7 @@ use header::Header;
 use header::Reading;
 use header::ServerCookie;
 ghost use mathlib.Core.Path.{_≡_};
+ghost use Rattle.responder_rules.specs.Answer.{refusedAnswer};
 ghost use Rattle.records_answer.specs.Value.{askedCookie, unchangedPlan, keepingPlan, planFor, planOf};
 
 // What a step returns, and whether the records stay; if not, the place of the record that leaves (past the end, none) before the fresh cookie joins.
@@ -55,8 +56,28 @@ fn keeping(wants: bool, n: usize, at: usize, time: u64) -> Plan
     unchanged(0, n)
 }
 
-// A request that is not refused: the fresh cookie and the request's stand at `fresh_at` and `at` of n records, or past the end.
+// The refusals in the page's order: the records' 6, what the arguments and the request are refused by, 8, 11.
+fn refused(wrong: bool, first: u8, wrong_cookie: bool, short: bool) -> u8
+    ensures { λ r. ⌜ r ≡ refusedAnswer wrong first «wrong_cookie» short ⌝ }
+{
+    if wrong {
+        return 6;
+    }
+    if first != 0 {
+        return first;
+    }
+    if wrong_cookie {
+        return 8;
+    }
+    if short {
+        return 11;
+    }
+    0
+}
+
+// A request with its header: the fresh cookie and the request's stand at `fresh_at` and `at` of n records, or past the end.
 fn plan_for(
+    wrong: bool,
     asked: Header,
     short: bool,
     fresh_cookie: ServerCookie,
@@ -65,19 +86,18 @@ fn plan_for(
     at: usize,
     time: u64,
 ) -> Plan
-    ensures { λ r. ⌜ r ≡ planFor asked short «fresh_cookie» n «fresh_at» at time ⌝ }
+    ensures { λ r. ⌜ r ≡ planFor wrong asked short «fresh_cookie» n «fresh_at» at time ⌝ }
 {
     let wants = wants_interleaved(asked);
-    if wants & ((fresh_cookie.0 == 0) | (fresh_at < n)) {
-        return unchanged(8, n);
-    }
-    if short {
-        return unchanged(11, n);
+    let wrong_cookie = wants & ((fresh_cookie.0 == 0) | (fresh_at < n));
+    let refusal = refused(wrong, 0, wrong_cookie, short);
+    if refusal != 0 {
+        return unchanged(refusal, n);
     }
     keeping(wants, n, at, time)
 }
 
-// Any request: the records' 6 stands first.
+// Any request.
 pub(crate) fn plan_of(
     wrong: bool,
     request: Reading,
@@ -90,11 +110,10 @@ pub(crate) fn plan_of(
 ) -> Plan
     ensures { λ r. ⌜ r ≡ planOf wrong request short «fresh_cookie» n «fresh_at» at time ⌝ }
 {
-    if wrong {
-        return unchanged(6, n);
-    }
     match request {
-        Reading::Fields(asked) => plan_for(asked, short, fresh_cookie, n, fresh_at, at, time),
-        Reading::Refused(number) => unchanged(number, n),
+        Reading::Fields(asked) => {
+            plan_for(wrong, asked, short, fresh_cookie, n, fresh_at, at, time)
+        }
+        Reading::Refused(number) => unchanged(refused(wrong, number, false, false), n),
     }
 }

@@ -7,19 +7,16 @@ use header::ServerCookie;
 pub use responder_rules::Answered;
 pub use responder_rules::Server;
 ghost use mathlib.Core.Path.{_≡_};
-ghost use mathlib.Core.Bool.{cond, _||_};
 ghost use mathlib.Core.List.{_++_};
 ghost use Prim.Native.Nat.{_≤_};
 ghost use lib.ListN.{length};
 ghost use Rattle.header.specs.Header.{headerOctets};
 ghost use Rattle.chain.specs.Chain.{soundRefusal};
 ghost use Rattle.chain.specs.Content.{chainOctets};
-ghost use Rattle.store_rules.specs.Row.{wrongStore};
-ghost use Rattle.responder_rules.specs.Answer.{answerFields, wrongArguments, outcome, answerOf};
+ghost use Rattle.responder_rules.specs.Answer.{answerFields, argumentsRefusal, outcome, answerOf};
 
-// Refusal 6, then 1 to 5, or 0.
-fn check(
-    store: &[u8],
+// What the arguments and the request are refused by: 6, then 1 to 5; 0 if by nothing.
+pub fn check(
     request: &[u8],
     filter: &[u8],
     information: &[u8],
@@ -27,12 +24,8 @@ fn check(
     receive: u64,
     estimate: u64,
 ) -> u8
-    ensures { λ r. ⌜ r ≡ cond (wrongStore (now (store .entry)) || wrongArguments (now (filter .entry)) (now (information .entry)) leap receive estimate) 6
-        (soundRefusal (now (request .entry)) 3) ⌝ }
+    ensures { λ r. ⌜ r ≡ argumentsRefusal (now (request .entry)) (now (filter .entry)) (now (information .entry)) leap receive estimate ⌝ }
 {
-    if store_check::wrong(store) {
-        return 6;
-    }
     if (filter.len() != 512)
         | (information.len() != 4)
         | (3 < leap)
@@ -77,15 +70,10 @@ pub fn answer(
       information = now (information .entry);
     }) (now (store .entry)) (now (out .entry)) ⌝ }
 {
-    let number = check(
-        store,
-        request,
-        filter,
-        information,
-        server.leap,
-        receive,
-        estimate,
-    );
+    if store_check::wrong(store) {
+        return Answered::Refused(6);
+    }
+    let number = check(request, filter, information, server.leap, receive, estimate);
     if number != 0 {
         return Answered::Refused(number);
     }

@@ -1,17 +1,16 @@
 -- When an answer is refused, and what it returns where it is and where it is not. Assumes nothing.
 use mathlib.Core.Path.{_≡_, refl, ap, _∙_}
-use mathlib.Core.Bool.{Bool, true, false, cond, not, _&&_, _||_}
-use mathlib.Core.List.{List, _++_}
+use mathlib.Core.Bool.{Bool, true, false, cond, _&&_, _||_}
+use mathlib.Core.List.{List}
 use Prim.Native.Nat.{ℕ, zero, suc}
 use native.Mathlib.Omega.{arith}
 use borrow.Author.Tests.{ltb-false, le-ltb, eq-eqb, eqb-true, eqb-false, ne-eqb, not-false}
-use lib.Dec.{eqb, ltb}
-use lib.ListN.{length, take, drop}
+use lib.Dec.{eqb}
+use lib.ListN.{length, take}
 use lib.Seq.{take-at}
-use Rattle.chain.specs.Chain.{soundRefusal}
 use Rattle.store_rules.specs.Row.{Record, held, rowOf, storeOctets, sizeOf, wrongStore}
 use Rattle.octets.proofs.Tests.{or-none}
-use Rattle.responder_rules.specs.Answer.{Given, Outcome, wantsInterleaved, wrongArguments, wrongFresh, answerRefusal, answerOctets, answerOf, rowAfter, asking}
+use Rattle.responder_rules.specs.Answer.{Given, Outcome, asking, wantsInterleaved, rowAfter, wrongArguments, firstRefusal, wrongFresh, shortOutput, refusedAnswer, answerRefusal, answerOctets, outputAfter, answerOf}
 use Rattle.responder_rules.specs.Claim.{Accepted, InRange, AnswerClaim, Answerable}
 use Rattle.responder_rules.proofs.Answers.{answer-size, answer-claim}
 
@@ -25,10 +24,14 @@ pub by-refusal : {A : Type 0} (number : A → ℕ) (n : ℕ) {w v : A} → numbe
 by-refusal number zero e f = e
 by-refusal number (suc n) {w} {v} e f = ap (λ (b : Bool). number (cond b w v)) (ne-eqb (suc n) 0 (λ z. omega arith)) ∙ f
 
--- the refusal of the request, before others
-request-passes : (n m : ℕ) → cond (not (eqb n 0)) n m ≡ 0 → (n ≡ 0) × (m ≡ 0)
-request-passes zero m e = (refl, e)
-request-passes (suc n) m e = absurd (omega (arith, rw (ne-eqb (suc n) 0 (λ e. omega arith)) at e))
+-- no test gives a refusal where it is 0
+pub none-refused : (wrong : Bool) (first : ℕ) (wrongCookie short : Bool) → refusedAnswer wrong first wrongCookie short ≡ 0
+    → (wrong ≡ false) × (first ≡ 0) × (wrongCookie ≡ false) × (short ≡ false)
+none-refused true n f s e = absurd (omega arith)
+none-refused false (suc n) f s e = absurd (omega (arith, rw (ne-eqb (suc n) 0 (λ e. omega arith)) at e))
+none-refused false zero true s e = absurd (omega arith)
+none-refused false zero false true e = absurd (omega arith)
+none-refused false zero false false e = (refl, refl, refl, refl)
 
 -- a fresh cookie that is needed and not wrong
 right-fresh : (wants : Bool) (freshCookie : ℕ) (row : List Record) → wants && (eqb freshCookie 0 || held freshCookie row) ≡ false → wants ≡ true
@@ -40,31 +43,43 @@ fresh-right : (wants : Bool) (freshCookie : ℕ) (row : List Record) → (wants 
 fresh-right true freshCookie row h = rw (ne-eqb freshCookie 0 (h refl .0)) (h refl .1)
 fresh-right false freshCookie row h = refl
 
--- no refusal applies to an answer that is not refused
-pub answerable : (g : Given) (store out : List ℕ) → answerRefusal g store out ≡ 0 → Answerable g store out
-unfolding answerRefusal
-answerable g store out e =
-    let wrong = wrongArguments (g .filter) (g .information) (g .server .leap) (g .receive) (g .estimate) in
-    let first = not-given (wrongStore store || wrong) 5 _ e in
-    let arguments = or-none (wrongStore store) wrong (first .0) in
-    let four = or-none _ (eqb (g .estimate) 0) (arguments .1) in
+-- arguments and a request that are not refused
+pub record FirstPass (g : Given) : Type 0 where
+  pub accepted : Accepted g
+  pub receive : g .receive ≡ 0 → ⊥
+  pub estimate : g .estimate ≡ 0 → ⊥
+
+pub first-pass : (g : Given) → firstRefusal g ≡ 0 → FirstPass g
+first-pass g e =
+    let first = not-given (wrongArguments (g .filter) (g .information) (g .server .leap) (g .receive) (g .estimate)) 5 _ e in
+    let four = or-none _ (eqb (g .estimate) 0) (first .0) in
     let three = or-none _ (eqb (g .receive) 0) (four .0) in
     let two = or-none _ _ (three .0) in
     let one = or-none _ _ (two .0) in
-    let second = request-passes (soundRefusal (g .request) 3) _ (first .1) in
-    let third = not-given (wrongFresh (asking g) (g .freshCookie) (rowOf store)) 7 _ (second .1) in
     record {
-      right = arguments .0;
       accepted = record {
-        request = second .0;
+        request = first .1;
         filter = eqb-true _ _ (not-false _ (one .0));
         information = eqb-true _ _ (not-false _ (one .1));
         leap = ltb-false _ _ (two .1);
       };
       receive = eqb-false (g .receive) 0 (three .1);
       estimate = eqb-false (g .estimate) 0 (four .1);
-      fresh = right-fresh (wantsInterleaved (asking g)) (g .freshCookie) (rowOf store) (third .0);
-      room = ltb-false _ _ (not-given (ltb (length out) (length (g .request))) 10 _ (third .1) .0);
+    }
+
+-- no refusal applies to an answer that is not refused
+pub answerable : (g : Given) (store out : List ℕ) → answerRefusal g store out ≡ 0 → Answerable g store out
+unfolding answerRefusal
+answerable g store out e =
+    let none = none-refused (wrongStore store) (firstRefusal g) (wrongFresh (asking g) (g .freshCookie) (rowOf store)) (shortOutput g out) e in
+    let pass = first-pass g (none .1) in
+    record {
+      right = none .0;
+      accepted = pass .accepted;
+      receive = pass .receive;
+      estimate = pass .estimate;
+      fresh = right-fresh (wantsInterleaved (asking g)) (g .freshCookie) (rowOf store) (none .2);
+      room = ltb-false _ _ (none .3);
     }
 
 -- and an answer to which none applies is not refused
@@ -90,7 +105,7 @@ answer-stored g store out e = answerable g store out e .right
 pub answer-written : (g : Given) (store out : List ℕ) → answerRefusal g store out ≡ 0 → answerOf g store out ≡ record {
   refusal = 0;
   size = length (g .request);
-  out = answerOctets g (rowOf store) ++ drop (length (g .request)) out;
+  out = outputAfter g (rowOf store) out;
   store = storeOctets (sizeOf store) (rowAfter (asking g) (g .freshCookie) (sizeOf store) (rowOf store));
 }
 unfolding answerOf
@@ -115,4 +130,4 @@ answer-given g store out e r = answer-claim g (rowOf store) (answer-accepted g s
 pub answer-sent : (g : Given) (store out : List ℕ) → answerRefusal g store out ≡ 0 → let w = answerOf g store out in take (w .size) (w .out) ≡ answerOctets g (rowOf store)
 answer-sent g store out e =
     ap (λ (w : Outcome). take (w .size) (w .out)) (answer-written g store out e)
-    ∙ take-at (answerOctets g (rowOf store)) (drop (length (g .request)) out) (length (g .request)) (answer-size g (answer-accepted g store out e) (rowOf store))
+    ∙ take-at (answerOctets g (rowOf store)) _ (length (g .request)) (answer-size g (answer-accepted g store out e) (rowOf store))

@@ -1,18 +1,18 @@
 -- What an answer returns and leaves on a store whose row is known, and that it leaves such a store. Assumes nothing.
 use mathlib.Core.Path.{_≡_, refl, sym, ap, _∙_}
 use mathlib.Core.Bool.{Bool, true, false, cond}
-use mathlib.Core.List.{List, [], _∷_, _++_}
+use mathlib.Core.List.{List, [], _∷_}
 use Prim.Native.Nat.{ℕ, _<_, _≤_, _^_}
 use native.Mathlib.Omega.{arith}
 use borrow.Author.Tests.{eqb-false}
 use lib.Dec.{eqb, lit<}
-use lib.ListN.{length, drop}
+use lib.ListN.{length}
 use Rattle.store_rules.specs.Row.{Record, held, timeOf, without, joined, storeOctets}
 use Rattle.store_rules.proofs.Rows.{SoundRow}
 use Rattle.store_rules.proofs.Stores.{Stores, store-written, stores-row, stores-size}
 use Rattle.store_rules.proofs.Kept.{length-without, sound-without, without-absent}
 use Rattle.store_rules.proofs.Joins.{length-joined, sound-joined}
-use Rattle.responder_rules.specs.Answer.{Given, asking, wantsInterleaved, savedTime, answerOctets, rowAfter, answerRefusal, answerOf}
+use Rattle.responder_rules.specs.Answer.{Given, asking, wantsInterleaved, savedTime, outputAfter, rowAfter, answerRefusal, answerOf}
 use Rattle.responder_rules.specs.Claim.{InRange}
 use Rattle.responder_rules.specs.Once.{askedCookie}
 use Rattle.responder_rules.proofs.Answers.{either}
@@ -104,7 +104,7 @@ module _ {s : List ℕ} {n : ℕ} {row : List Record} (w : Stores s n row) (g : 
 
   -- an answer that is not refused
   pub answer-result : answerRefusal g s out ≡ 0 → answerOf g s out
-      ≡ record { refusal = 0; size = length (g .request); out = answerOctets g row ++ drop (length (g .request)) out; store = storeOctets n next }
+      ≡ record { refusal = 0; size = length (g .request); out = outputAfter g row out; store = storeOctets n next }
   answer-result e = answer-written g s out e ∙ rw (stores-row w, stores-size w)
 
   -- where a fresh cookie is needed, it is not 0 and not in the row

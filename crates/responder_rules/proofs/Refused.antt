@@ -3,14 +3,12 @@ use mathlib.Core.Path.{_≡_, refl, _∙_, subst⁻¹}
 use mathlib.Core.Bool.{Bool, true, false, cond, not, _||_}
 use mathlib.Core.List.{List}
 use Prim.Native.Nat.{ℕ}
-use lib.Dec.{eqb, ltb}
-use lib.ListN.{length}
+use lib.Dec.{eqb}
 use Rattle.header.specs.Header.{refusal}
-use Rattle.chain.specs.Chain.{soundRefusal}
 use Rattle.octets.specs.Among.{among}
 use Rattle.chain.proofs.Refusals.{sound-number}
 use Rattle.store_rules.specs.Row.{held, timeOf, rowOf, wrongSize, wrongStore, cleared, reportRefusal}
-use Rattle.responder_rules.specs.Answer.{Given, asking, wrongArguments, wrongFresh, answerRefusal}
+use Rattle.responder_rules.specs.Answer.{Given, asking, wrongArguments, firstRefusal, wrongFresh, shortOutput, answerRefusal}
 use Rattle.responder_rules.specs.Call.{clear, report, answer, stepStore}
 use Rattle.responder_rules.specs.Refused.{refusalsOf, RefusedCall, Refusals}
 use Rattle.responder_rules.proofs.Accepting.{answer-refused, answer-number}
@@ -34,11 +32,12 @@ answer-one : (g : Given) (store out : List ℕ) → OneOf (refusalsOf (answer g 
 unfolding answerRefusal
 answer-one g store out =
     let ms = refusalsOf (answer g out) in
-    let r = soundRefusal (g .request) 3 in
-    test-given ms (wrongStore store || wrongArguments (g .filter) (g .information) (g .server .leap) (g .receive) (g .estimate)) 6 _ (λ z. refl)
-    (test-given ms (not (eqb r 0)) r _ (sound-number (OneOf ms) (none ms) (λ z. refl) (λ z. refl) (λ z. refl) (λ z. refl) (λ z. refl) (g .request) 3)
+    let sound = sound-number (OneOf ms) (none ms) (λ z. refl) (λ z. refl) (λ z. refl) (λ z. refl) (λ z. refl) (g .request) 3 in
+    let first = test-given ms (wrongArguments (g .filter) (g .information) (g .server .leap) (g .receive) (g .estimate)) 6 _ (λ z. refl) sound in
+    test-given ms (wrongStore store) 6 _ (λ z. refl)
+    (test-given ms (not (eqb (firstRefusal g) 0)) (firstRefusal g) _ first
     (test-given ms (wrongFresh (asking g) (g .freshCookie) (rowOf store)) 8 _ (λ z. refl)
-    (test-given ms (ltb (length out) (length (g .request))) 11 0 (λ z. refl) (none ms))))
+    (test-given ms (shortOutput g out) 11 0 (λ z. refl) (none ms))))
 
 report-one : (s : List ℕ) (c t : ℕ) → OneOf (refusalsOf (report c t)) (reportRefusal s c t)
 report-one s c t =

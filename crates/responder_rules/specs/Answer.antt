@@ -91,6 +91,10 @@ sentFields g = answerFields (g .request) (g .filter) (g .information)
 unfoldable pub answerOctets : Given → List Record → List ℕ
 answerOctets g row = headerOctets (sentHeader g row) ++ chainOctets (sentFields g)
 
+-- the output after an answer: past the octets written it stays as it was
+abbrev pub outputAfter : Given → List Record → (out : List ℕ) → List ℕ
+outputAfter g row out = answerOctets g row ++ drop (length (g .request)) out
+
 -- the row after an answer: the record whose time is sent leaves; then the fresh cookie joins the end
 abbrev pub rowAfter : (asked : Header) (freshCookie n : ℕ) → List Record → List Record
 rowAfter asked freshCookie n row =
@@ -103,18 +107,40 @@ abbrev pub wrongArguments : (filter information : List ℕ) (leap receive estima
 wrongArguments filter information leap receive estimate =
     not (eqb (length filter) 512) || not (eqb (length information) 4) || ltb 3 leap || eqb receive 0 || eqb estimate 0
 
+-- what the arguments and the request are refused by: 6, then 1 to 5
+abbrev pub argumentsRefusal : (request filter information : List ℕ) (leap receive estimate : ℕ) → ℕ
+argumentsRefusal request filter information leap receive estimate =
+    cond (wrongArguments filter information leap receive estimate) 6 (soundRefusal request 3)
+
+-- the same of what an answer is given
+abbrev pub firstRefusal : Given → ℕ
+firstRefusal g = argumentsRefusal (g .request) (g .filter) (g .information) (g .server .leap) (g .receive) (g .estimate)
+
 -- 8: a fresh cookie is needed, and it is 0 or in the store at entry
 abbrev pub wrongFresh : (asked : Header) (freshCookie : ℕ) → List Record → Bool
 wrongFresh asked freshCookie row = wantsInterleaved asked && (eqb freshCookie 0 || held freshCookie row)
 
--- the refusals in the page's order
+-- 11: the output is shorter than the answer
+abbrev pub shortOutput : Given → (out : List ℕ) → Bool
+shortOutput g out = ltb (length out) (length (g .request))
+
+-- the refusals in the page's order: the store's 6, what the arguments and the request are refused by, 8, 11
+abbrev pub refusedAnswer : (wrong : Bool) (first : ℕ) (wrongCookie short : Bool) → ℕ
+refusedAnswer wrong first wrongCookie short =
+    cond wrong 6
+    (cond (not (eqb first 0)) first
+    (cond wrongCookie 8
+    (cond short 11
+    0)))
+
 unfoldable pub answerRefusal : Given → (store out : List ℕ) → ℕ
 answerRefusal g store out =
-    cond (wrongStore store || wrongArguments (g .filter) (g .information) (g .server .leap) (g .receive) (g .estimate)) 6
-    (cond (not (eqb (soundRefusal (g .request) 3) 0)) (soundRefusal (g .request) 3)
-    (cond (wrongFresh (asking g) (g .freshCookie) (rowOf store)) 8
-    (cond (ltb (length out) (length (g .request))) 11
-    0)))
+    refusedAnswer (wrongStore store) (firstRefusal g) (wrongFresh (asking g) (g .freshCookie) (rowOf store)) (shortOutput g out)
+
+-- the page's number and value for each case of the call's answer
+abbrev pub numbersOf : Answered → ℕ × ℕ
+numbersOf (Written n) = (0, n)
+numbersOf (Refused n) = (n, 0)
 
 -- all that an answer returns and leaves
 pub record Outcome : Type 0 where
@@ -123,10 +149,8 @@ pub record Outcome : Type 0 where
   pub out : List ℕ
   pub store : List ℕ
 
--- the page's number and value for each case of the call's answer
 abbrev pub outcome : Answered → (out store : List ℕ) → Outcome
-outcome (Written n) out store = record { refusal = 0; size = n; out = out; store = store }
-outcome (Refused n) out store = record { refusal = n; size = 0; out = out; store = store }
+outcome r out store = record { refusal = numbersOf r .0; size = numbersOf r .1; out = out; store = store }
 
 unfoldable pub answerOf : Given → (store out : List ℕ) → Outcome
 answerOf g store out =
@@ -134,7 +158,7 @@ answerOf g store out =
     (record {
       refusal = 0;
       size = length (g .request);
-      out = answerOctets g (rowOf store) ++ drop (length (g .request)) out;
+      out = outputAfter g (rowOf store) out;
       store = storeOctets (sizeOf store) (rowAfter (asking g) (g .freshCookie) (sizeOf store) (rowOf store));
     })
     (record { refusal = answerRefusal g store out; size = 0; out = out; store = store })

@@ -48,7 +48,7 @@ use Rattle.records.specs.declared.Record.{Record as Slot}
 use Rattle.records.proofs.Record as T
 use Rattle.records.proofs.Walk.{IsCookie, Asks, calls-ensured, slice-pre}
 use Rattle.records.proofs.Calling.{calls-giving}
-use Rattle.responder_rules.specs.Answer.{Given as Asked}
+use Rattle.responder_rules.specs.Answer.{Given as Asked, shortOutput}
 use Rattle.responder_rules.specs.declared.Server.{Server}
 use Rattle.responder_rules.specs.declared.Answered.{Answered}
 use Rattle.responder_rules.proofs.Server as Sv
@@ -56,7 +56,7 @@ use Rattle.responder_rules.proofs.Server.Laws as Sv′
 use Rattle.responder_rules.proofs.Answered as An
 use Rattle.responder_rules.proofs.Answered.Laws as An′
 use Rattle.records_answer.specs.Step.{stepped}
-use Rattle.records_answer.specs.Answer.{checkedRequest, shortOutput, stepOf, outcome, answerRecords}
+use Rattle.records_answer.specs.Answer.{checkedRequest, stepOf, outcome, answerRecords}
 use Rattle.records_answer.specs.Sent.{Ready, sentBy}
 use Rattle.records_answer.specs.declared.Step.{Step}
 use Rattle.records_answer.proofs.Deciding.{ready, answered}
