@@ -48,7 +48,6 @@ enum-told c = search needs
 put-requires-2 : tie.Need-put-requires-2
 put-requires-2 c κs = search needs
 
--- /tmp/h_field/target/rlib/chain.rlib/interface/lang/src/lib.rt:5:38
 enum-told-2 : tie.Need-enum-told-2
 enum-told-2 c = search needs
 
