@@ -146,7 +146,8 @@ once-only (n) = let k : ℕ = n in record {
 }
 """
 ROW = "| `own/specs/Rules.antt:Once` | Once. | `own/proofs/Law.antt:once-only` |\n"
-PAGE = "# Claims\n\n| claim | says | proof |\n|---|---|---|\n" + ROW + "\n## Types\n\n| type | what it is |\n|---|---|\n"
+BOTH = "| `own/specs/Rules.antt:Both` | Both. |\n"
+PAGE = "# Claims\n\n| claim | says | proof |\n|---|---|---|\n" + ROW + "\n## Types\n\n| type | what it is |\n|---|---|\n" + BOTH
 FILES = {
     "crates/own/specs/Lib.antt": "-- root\npub mod Rules\n",
     "crates/own/specs/Rules.antt": SPECS,
@@ -172,7 +173,7 @@ class Claims(unittest.TestCase):
         self.assertEqual(claim_faults(specs=SPECS.replace("abbrev", "unfoldable")), (1, []))
         self.assertEqual(claim_faults(proofs=PROOFS.replace("With, Once}", "With,\n  Once,\n}")), (1, []))
         both = PROOFS.replace("{With, Once}", "{Both, Once}").replace("only : Once", "only : Both")
-        page = PAGE.replace("Rules.antt:Once", "Rules.antt:Both") + "| `own/specs/Rules.antt:Once` | A type. |\n"
+        page = PAGE.replace(BOTH, "").replace("Rules.antt:Once", "Rules.antt:Both") + "| `own/specs/Rules.antt:Once` | A type. |\n"
         self.assertEqual(claim_faults(page, proofs=both), (1, []))
 
     def test_claim_is_closed(self):
@@ -211,7 +212,7 @@ class Claims(unittest.TestCase):
         self.refused("no file", page=PAGE.replace("Law.antt", "Laws.antt"))
 
     def test_no_claim_is_left_out(self):
-        for more in ("abbrev pub Lost : Type 0\nLost = ⊥\n", "unfoldable pub Lost :\n    Type 0\nLost = ⊥\n"):
+        for more in ("abbrev pub Lost : Type 0\nLost = ⊥\n", "unfoldable pub Lost :\n    Type 0\nLost = ⊥\n", "pub record Lost : Type 0 where\n  pub lost : ⊥\n"):
             self.refused("no row for Lost", specs=SPECS + "\n" + more)
         self.refused("no claims", page=PAGE.replace(ROW, ""))
         self.assertEqual(claim_faults(specs=SPECS + "\nabbrev pub Fits : ℕ → Type 0\nFits n = n ≡ n\n"), (1, []))

@@ -8,7 +8,7 @@ line for each fault, if
 - its proof is not declared once, at column 0, with the claim's name and nothing more as its type: an argument, a longer
   signature or a module's parameter would be one more hypothesis;
 - the name that the proof has as its type is not the claim: brought from elsewhere, under another name, or made in the file;
-- a closed type of `specs/` is in no row, so that a claim might be left out, or a row's place is not there.
+- a closed type of `specs/`, a definition or a record, is in no row, so that a claim might be left out, or a row's place is not there.
 """
 
 import pathlib
@@ -136,10 +136,10 @@ def row_faults(claim, proof, repository):
 
 
 def closed_types(repository):
-    """The closed types of `specs/` that are definitions, each as its file and name. A record is most often of values."""
+    """The closed types of `specs/`, definitions and records, each as its file and name."""
     for file, text in repository.texts.items():
         if re.match(r"crates/\w+/specs/", file):
-            yield from ((file, d.name) for d in antt_text.declarations(text) if not d.kind and is_closed(d))
+            yield from ((file, d.name) for d in antt_text.declarations(text) if is_closed(d))
 
 
 def faults(page, repository):
