@@ -30,8 +30,10 @@ use Rattle.client_rules.proofs.Pasted.{within}
 use Rattle.client_rules.proofs.Demand3.{simulates, good-reached, call-reached, octet-at}
 use Rattle.client_rules.proofs.Demand2.{accepts}
 use Rattle.store_rules.specs.Row.{rowOf}
+use Rattle.store_rules.proofs.Stores.{store-read}
 use Rattle.responder_rules.specs.Answer.{Given, answerRefusal, answerOctets, answerOf}
-use Rattle.responder_rules.proofs.Accepting.{answer-accepted, answer-number, answer-sent}
+use Rattle.responder_rules.proofs.Accepting.{answerable, answer-accepted, answer-number, answer-sent}
+use Rattle.responder_rules.proofs.Leaving.{range-row}
 use Rattle.responder_rules.proofs.Room.{response-length}
 use Rattle.together.specs.Together.{Polling, pollChunk, pollOffset, callsOf, Asks, Answers, sentBy, receiving, Exchanged, Together}
 use Rattle.together.proofs.Answered.{chunkAsked, polled-size}
@@ -84,7 +86,9 @@ module _ (k : Polling) (h : Asks k) (g : Given) (store out : List ℕ) (n : Answ
   sent = answer-sent g store out passes
 
   serves : Serves q (k .cookie) (g .filter) answer
-  serves = served q (k .cookie) (k .exponent) (k .interleaved) (w .ranges) g request store out passes (n .range) (n .filter) (n .stored)
+  serves =
+      let range = range-row g (rowOf store) (store-read store (n .stored) (answerable g store out passes .right) .sound) (n .range) in
+      served q (k .cookie) (k .exponent) (k .interleaved) (w .ranges) g request store out passes range (n .filter) (n .stored)
 
   abbrev places : List Place
   places = after stepPlain (callsOf k) closedTable
