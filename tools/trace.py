@@ -2,8 +2,9 @@
 """Holds docs/TRACE.md, the map from document 01 to the proofs, to the repository.
 
 Everything in backticks there is a file, or a file and a name in it after a colon. Fails, with a line for each, if a file is
-gone, if a name is not defined in its file, or if a row of a table lacks a cell. So a theorem that nothing else cites can't
-be lost or renamed in silence. The edits that docs/IDLE.md names have to be there as well.
+gone, if a name is not defined in its file, or if a row of a table lacks a cell. A law of `proofs/` is one that docs/CLAIMS.md
+lists, since any other could be weakened unseen. So nothing that the page leads to can be lost or renamed in silence. The
+edits that docs/IDLE.md names have to be there as well.
 """
 import os
 import re
@@ -12,6 +13,7 @@ import sys
 ROOT = os.path.join(os.path.dirname(os.path.abspath(__file__)), "..")
 PAGE = "docs/TRACE.md"
 IDLE = "docs/IDLE.md"
+CLAIMS = "docs/CLAIMS.md"
 CELLS = 4       # rule, definition, promise or theorem, edit or test
 
 # How a line that defines a name begins, by the file's ending. A case file has no names: a comment there begins with the text.
@@ -51,6 +53,12 @@ def fault(name):
     return f"{path} does not define {inner}"
 
 
+def claimed():
+    """The proofs that docs/CLAIMS.md lists."""
+    with open(os.path.join(ROOT, CLAIMS), encoding="utf-8") as text:
+        return set(re.findall(r"`(\w+/proofs/[^`]*)`", text.read()))
+
+
 def idle_faults():
     """The edits that docs/IDLE.md names, as `CRATE/NAME`, and that are not there."""
     with open(os.path.join(ROOT, IDLE), encoding="utf-8") as text:
@@ -63,7 +71,7 @@ def idle_faults():
 def main():
     with open(os.path.join(ROOT, PAGE), encoding="utf-8") as text:
         lines = text.read().split("\n")
-    rules, names, faults = 0, set(), []
+    rules, names, faults, proofs = 0, set(), [], claimed()
     for number, line in enumerate(lines, 1):
         if line.startswith("|") and not re.match(r"\| rule \||\|[-|]+$", line):
             rules += 1
@@ -75,6 +83,8 @@ def main():
         for name in re.findall(r"`([^`]*)`", line):
             names.add(name)
             wrong = fault(name)
+            if not wrong and re.match(r"\w+/proofs/\w+\.antt:", name) and name not in proofs:
+                wrong = f"{name} is not among {CLAIMS}'s proofs"
             if wrong:
                 faults.append(f"{PAGE}:{number}: {wrong}")
     faults += idle_faults()

@@ -11,22 +11,9 @@ use lib.ListN.{length, replicate}
 use Rattle.store_rules.specs.Row.{Record, held, timeOf, reported, without}
 pub use Rattle.store_rules.specs.Row.{unusedRecord}
 use Rattle.store_rules.specs.Place.{indexOf}
-
--- ---- two tests, both of which fail
+pub use Rattle.store_rules.specs.Claim.{SoundRecord, SoundRow}
 
 -- ---- sound rows
-
--- a record that stands before later ones
-pub record SoundRecord (r : Record) (later : List Record) : Type 0 where
-  pub used : r .cookie ≡ 0 → ⊥
-  pub cookie : r .cookie < 2 ^ 64
-  pub time : r .time < 2 ^ 64
-  pub once : held (r .cookie) later ≡ false
-
--- each cookie is used, fits its octets, and stands once
-abbrev pub SoundRow : List Record → Type 0
-SoundRow [] = Unit {0}
-SoundRow (r ∷ row) = SoundRecord r row × SoundRow row
 
 -- the same record before others that lack its cookie too
 pub sound-before : {r : Record} {rs rs′ : List Record} → SoundRecord r rs → held (r .cookie) rs′ ≡ false → SoundRecord r rs′

@@ -9,6 +9,7 @@ use borrow.Author.Tests.{eqb-true, eqb-false, ne-eqb, eq-eqb, ltb-false, le-ltb,
 use lib.Dec.{eqb, ltb}
 use lib.ListN.{length, length-append, length-replicate}
 use Rattle.octets.specs.Number.{Octets}
+use Rattle.store_rules.specs.Claim.{StoreRead, StoreWritten}
 use Rattle.store_rules.specs.Row.{Record, held, unused, allUnused, usedOf, soundRecords, storeOctets, rowOctets, recordsFrom, recordsOf, sizeOf, rowOf, wrongSize, wrongStore}
 use Rattle.octets.proofs.Tests.{or-none}
 use Rattle.store_rules.proofs.Rows.{SoundRecord, SoundRow, unusedRecord, unusedRow, held-append}
@@ -209,3 +210,11 @@ module _ {s : List ℕ} {n : ℕ} {row : List Record} (w : Stores s n row) where
   -- and its size
   pub stores-size : sizeOf s ≡ n
   stores-size = let l = w .total in omega arith
+
+-- ---- both ways
+
+pub octets-of-row : StoreRead
+octets-of-row s o h = let w = store-read s o h in (sym (w .content), w .sound)
+
+pub row-of-octets : StoreWritten
+row-of-octets n row g h lo hi = let w = store-written n row g h lo hi in (stores-right w, stores-size w, stores-row w)
