@@ -26,7 +26,7 @@ class Story:
     def __init__(self):
         self.table, self.store = Table(), Store()
 
-    def tell(self, *sentences):
+    def note(self, *sentences):
         print()
         for sentence in sentences:
             print(f"# {sentence}")
@@ -64,38 +64,38 @@ def main():
     story, start = Story(), 5000 * SECOND
     good, looping = filter_of(CLOCK), filter_of(NEIGHBOUR, OWN)
     print("# A management controller and its two servers, call by call.")
-    story.tell("Our controller has a table for sixteen servers. It is cleared once, before anything else: 0 is success.")
+    story.note("Our controller has a table for sixteen servers. It is cleared once, before anything else: 0 is success.")
     print("clear")
-    story.tell("Server 0 is the rack's clock, server 1 a neighbour. Filters come in chunks of 256 octets, so two each.")
+    story.note("Server 0 is the rack's clock, server 1 a neighbour. Filters come in chunks of 256 octets, so two each.")
     story.open(0)
     story.open(1)
-    story.tell("The clock keeps the send times of its last answers in a store, here of four records.")
+    story.note("The clock keeps the send times of its last answers in a store, here of four records.")
     print("store 4")
     story.store.clear(4)
 
-    story.tell("A basic exchange. We ask the clock, with a cookie that is never used again, for time and the first chunk:",
+    story.note("A basic exchange. We ask the clock, with a cookie that is never used again, for time and the first chunk:",
                "340 octets go out, and then the time at which they went (T1).")
     request = story.poll(0, 0xC1, "interleaved", start)
-    story.tell("The clock answers; it is a second ahead of us. It thinks that it sends 16 units after it got the request. The answer",
+    story.note("The clock answers; it is a second ahead of us. It thinks that it sends 16 units after it got the request. The answer",
                "is as long as the request, and its fresh cookie waits in the store for the true send time.")
     octets = story.answer(request, start + SECOND, start + SECOND + 16, 0x51, good)
-    story.tell("It went out a little later than thought. The clock reports that, and the store holds cookie and time.")
+    story.note("It went out a little later than thought. The clock reports that, and the store holds cookie and time.")
     story.report(0x51, start + SECOND + 80)
-    story.tell("We receive it: usable (judgement 0), its chunk taken (1). The offset is about a second, in units of 2^-32 s.")
+    story.note("We receive it: usable (judgement 0), its chunk taken (1). The offset is about a second, in units of 2^-32 s.")
     story.receive(0, start + 96, octets)
 
-    story.tell("An interleaved exchange. We repeat the clock's cookie, so that it tells the true send time of its last answer.")
+    story.note("An interleaved exchange. We repeat the clock's cookie, so that it tells the true send time of its last answer.")
     later = start + 16 * SECOND
     request = story.poll(0, 0xC2, "interleaved", later)
     octets = story.answer(request, later + SECOND, later + SECOND + 16, 0x52, good)
-    story.tell("The measurement is of the exchange before, with the true send time: the delay is smaller, the offset nearer to a",
+    story.note("The measurement is of the exchange before, with the true send time: the delay is smaller, the offset nearer to a",
                "second. Both chunks of the clock's filter are there now.")
     story.receive(0, later + 96, octets)
 
-    story.tell("A late duplicate of that answer comes. Its request was used up: refused with 9, and nothing changes.")
+    story.note("A late duplicate of that answer comes. Its request was used up: refused with 9, and nothing changes.")
     story.receive(0, later + 200, octets)
 
-    story.tell("Two answers that arrive mixed. We ask both servers; the neighbour's answer comes first.",
+    story.note("Two answers that arrive mixed. We ask both servers; the neighbour's answer comes first.",
                "Each chunk goes to its own server's filter, at the offset that its own request asked.")
     turn = start + 32 * SECOND
     mine, theirs = story.poll(0, 0xC3, t1=turn), story.poll(1, 0xD1, t1=turn + 5)
@@ -104,22 +104,22 @@ def main():
     story.receive(1, turn + 100, second)
     story.receive(0, turn + 96, first)
 
-    story.tell("Do we follow ourselves? Of the neighbour only half the filter is there: incomplete (1).")
+    story.note("Do we follow ourselves? Of the neighbour only half the filter is there: incomplete (1).")
     print(f"verdict 1 {text_of(OWN)}")
-    story.tell("The second half.")
+    story.note("The second half.")
     turn = start + 48 * SECOND
     theirs = story.poll(1, 0xD2, t1=turn)
     second = story.answer(theirs, turn + 40, turn + 56, 0, looping)
     story.receive(1, turn + 100, second)
-    story.tell("Now the verdict is loop (2): our own ID is in the neighbour's filter, so the neighbour follows us.")
+    story.note("Now the verdict is loop (2): our own ID is in the neighbour's filter, so the neighbour follows us.")
     print(f"verdict 1 {text_of(OWN)}")
-    story.tell("The clock's filter does not have it: clear (3).")
+    story.note("The clock's filter does not have it: clear (3).")
     print(f"verdict 0 {text_of(OWN)}")
 
-    story.tell("We follow the clock alone. Published is its filter with our own ID added, so that others can see us in it.")
+    story.note("We follow the clock alone. Published is its filter with our own ID added, so that others can see us in it.")
     print(f"publish 1 {text_of(OWN)} 00*512")
 
-    story.tell("Bad input is refused with its number: 47 octets (1), a field length of 3 (4), padding that is not zero (5).")
+    story.note("Bad input is refused with its number: 47 octets (1), a field length of 3 (4), padding that is not zero (5).")
     print("sound 4 2c00*46")
     print("sound 4 2c00*47,f5010003")
     print("sound 4 2c00*47,f5010005,ff,000001")

@@ -12,7 +12,7 @@ from responder_model import SERVER, Store
 
 FILTER = filter_of(bytes(range(15)), bytes(range(100, 115)), bytes(range(200, 215)))
 COUNTED = bytes(i % 251 for i in range(512))       # no two neighbours equal: an offset shows
-TOLD = bytes.fromhex("05010203")
+INFORMATION_DATA = bytes.fromhex("05010203")
 VALUES = {"leap": 1, "stratum": 2, "poll": 6, "precision": -20, "timescale": 3, "era": 4, "flags": 0x0001,
           "root_delay": 0x11111111, "root_dispersion": 0x22222222}
 
@@ -58,8 +58,8 @@ class Lines:
         self.store.report(cookie, time)
         self.made.append(f"report {cookie:#x} {time}")
 
-    def answer(self, datagram, receive=1000, estimate=1001, fresh=0, lent=None, filter_octets=FILTER, information=TOLD,
-               **values):
+    def answer(self, datagram, receive=1000, estimate=1001, fresh=0, lent=None, filter_octets=FILTER,
+               information=INFORMATION_DATA, **values):
         """The answer's octets, as the model gives them."""
         lent = b"\xaa" * len(datagram) if lent is None else lent
         server = [{**VALUES, **values}[name] for name in SERVER]
@@ -105,7 +105,7 @@ def refusing(lines):
     lines.answer(wanted(), fresh=7)
     bad = wanted()[:-2]
     for given in ({"leap": 4}, {"receive": 0}, {"estimate": 0}, {"filter_octets": FILTER[1:]}, {"filter_octets": b""},
-                  {"information": TOLD[1:]}, {"information": TOLD + b"\0"}):
+                  {"information": INFORMATION_DATA[1:]}, {"information": INFORMATION_DATA + b"\0"}):
         lines.answer(bad, **given)
     damaged = [bad, request() + bytes(1236), b"\x23" + wanted()[1:], b"\x2c" + wanted()[1:],
                wanted() + bytes.fromhex("f5010003"), wanted() + bytes.fromhex("f5010008"),

@@ -1,7 +1,7 @@
 #!/usr/bin/env python3
 """Shows that tools/contracts.py and tools/claims.py refuse what they are for: each gets small wrong texts, and right ones.
 
-Without it a check that lost its teeth would pass everything and go unnoticed.
+Without it a check that refuses nothing any more would go unnoticed.
 """
 import contextlib
 import io
@@ -229,10 +229,10 @@ class Claims(unittest.TestCase):
 
 def main():
     """Says how many tests passed: none is no success either."""
-    told = io.StringIO()
-    result = unittest.TextTestRunner(stream=told).run(unittest.defaultTestLoader.loadTestsFromModule(sys.modules[__name__]))
+    output = io.StringIO()
+    result = unittest.TextTestRunner(stream=output).run(unittest.defaultTestLoader.loadTestsFromModule(sys.modules[__name__]))
     if not result.wasSuccessful() or result.skipped or not result.testsRun:
-        print(told.getvalue())
+        print(output.getvalue())
         return 1
     print(f"tools_test: {result.testsRun} tests of the checks passed")
     return 0

@@ -53,7 +53,7 @@ def split_commas(text):
 def parameters(text):
     for part in split_commas(text):
         found = PARAMETER.fullmatch(part)
-        # What can't be read counts as a parameter that no contract names, so that it is told.
+        # What can't be read counts as a parameter that no contract names, so that it is a fault.
         lent, name, kind = found.groups() if found else ("", part, "")
         yield name, bool(MUTABLE.search(lent or "") or MUTABLE.search(kind or ""))
 

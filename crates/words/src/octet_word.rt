@@ -127,7 +127,7 @@ fn fill(buffer: &mut [u8], from: u64, times: u64, octet: u8)
 }
 
 // Each run takes an octet of the text at least, so that as many turns as octets are enough. The next run's place is
-// told by what is left, which needs no sum.
+// computed from what is left, which needs no sum.
 fn write_runs(word: &[u8], buffer: &mut [u8]) -> Value
     ensures { λ r. ⌜ (r, now (buffer .exit)) ≡ writeFrom (length (now (word .entry))) (now (buffer .entry)) 0 (now (word .entry)) ⌝ }
 {

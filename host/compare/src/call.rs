@@ -1,4 +1,4 @@
-//! A call with its arguments, and what it told.
+//! A call with its arguments, and what it gave back.
 
 use ntp5::ffi;
 
@@ -69,7 +69,7 @@ impl Returned {
 
 /// All that a call gave back.
 #[derive(Clone, Debug, PartialEq, Eq)]
-pub struct Told {
+pub struct Outcome {
     /// The value returned.
     pub returned: Returned,
     /// The buffer lent to be written, as the call left it; empty if there was none.
@@ -78,17 +78,17 @@ pub struct Told {
     pub stray: Option<String>,
 }
 
-impl Told {
+impl Outcome {
     /// A call that wrote nothing astray.
     pub fn new(returned: Returned, out: Vec<u8>) -> Self {
-        Told { returned, out, stray: None }
+        Outcome { returned, out, stray: None }
     }
 }
 
 /// Something that calls are made on.
 pub trait Side {
     /// Makes the call.
-    fn make(&mut self, call: &Call) -> Told;
+    fn make(&mut self, call: &Call) -> Outcome;
     /// The table's octets.
     fn table(&self) -> Vec<u8>;
     /// The store's octets.

@@ -1,6 +1,6 @@
 //! The library's side: the C interface, every buffer between canaries.
 
-use crate::call::{Answering, Call, Returned, Side, Told};
+use crate::call::{Answering, Call, Outcome, Returned, Side};
 use ntp5::ffi::calls;
 use ntp5::{Occasion, Server, ServerCookie};
 
@@ -76,16 +76,16 @@ impl Library {
         read: &[u8],
         written: &[u8],
         call: impl FnOnce(&mut Self, &[u8], &mut [u8]) -> Returned,
-    ) -> Told {
+    ) -> Outcome {
         self.shift = self.shift.wrapping_add(1);
         let input = Guarded::new(read, self.shift % 8);
         let mut output = Guarded::new(written, self.shift / 8 % 8);
         let returned = call(self, input.part(), output.part_mut());
         let stray = input.stray_read_only(read).or_else(|| output.stray());
-        Told { returned, out: output.part().to_vec(), stray }
+        Outcome { returned, out: output.part().to_vec(), stray }
     }
 
-    fn answer(&mut self, args: &Answering) -> Told {
+    fn answer(&mut self, args: &Answering) -> Outcome {
         let filter = Guarded::new(&args.filter, self.shift % 5);
         let information = Guarded::new(&args.information, self.shift % 3);
         let occasion = Occasion {
@@ -106,19 +106,19 @@ impl Library {
             filter: filter.part(),
             information: information.part(),
         };
-        let mut told = self.lend(&args.request, &args.out, |side, request, out| {
+        let mut outcome = self.lend(&args.request, &args.out, |side, request, out| {
             let store = side.store.part_mut();
             Returned::Written(calls::answer(store, request, &occasion, &server, out))
         });
         let stray = filter.stray_read_only(&args.filter);
         let stray = stray.or_else(|| information.stray_read_only(&args.information));
-        told.stray = told.stray.or(stray);
-        told
+        outcome.stray = outcome.stray.or(stray);
+        outcome
     }
 
     /// The calls on a table.
-    fn client(&mut self, call: &Call) -> Told {
-        let refusal = |returned| Told::new(Returned::Refusal(returned), Vec::new());
+    fn client(&mut self, call: &Call) -> Outcome {
+        let refusal = |returned| Outcome::new(Returned::Refusal(returned), Vec::new());
         let table = self.table.part_mut();
         match call {
             Call::Clear => refusal(calls::clear(table)),
@@ -157,7 +157,7 @@ impl Library {
     }
 
     /// The calls without table and store.
-    fn single(&mut self, call: &Call) -> Told {
+    fn single(&mut self, call: &Call) -> Outcome {
         match call {
             Call::HeaderRead { mode, datagram } => self.lend(datagram, &[], |_, datagram, _| {
                 Returned::Read(calls::header_read(datagram, *mode))
@@ -177,7 +177,7 @@ impl Library {
             &Call::Measure { times: [t1, t2, t3, t4] } => {
                 let offset = calls::offset(t1, t2, t3, t4);
                 let delay = calls::delay(t1, t2, t3, t4);
-                Told::new(Returned::Measured { offset, delay }, Vec::new())
+                Outcome::new(Returned::Measured { offset, delay }, Vec::new())
             }
             _ => unreachable!("a call on a table or a store"),
         }
@@ -185,9 +185,9 @@ impl Library {
 }
 
 impl Side for Library {
-    fn make(&mut self, call: &Call) -> Told {
-        let refusal = |returned| Told::new(Returned::Refusal(returned), Vec::new());
-        let mut told = match call {
+    fn make(&mut self, call: &Call) -> Outcome {
+        let refusal = |returned| Outcome::new(Returned::Refusal(returned), Vec::new());
+        let mut outcome = match call {
             Call::StoreClear => refusal(calls::store_clear(self.store.part_mut())),
             &Call::Report { cookie, time } => {
                 refusal(calls::report(self.store.part_mut(), cookie, time))
@@ -196,8 +196,8 @@ impl Side for Library {
             _ if call.on_table() => self.client(call),
             _ => self.single(call),
         };
-        told.stray = told.stray.or_else(|| self.table.stray()).or_else(|| self.store.stray());
-        told
+        outcome.stray = outcome.stray.or_else(|| self.table.stray()).or_else(|| self.store.stray());
+        outcome
     }
 
     fn table(&self) -> Vec<u8> {

@@ -1,6 +1,6 @@
 //! Calls as the lines that the `cases` program reads, and their answers.
 
-use crate::call::{Answering, Call, Told};
+use crate::call::{Answering, Call, Outcome};
 use ntp5::ffi::Header;
 use std::fmt::Write;
 
@@ -99,9 +99,9 @@ pub fn line(call: &Call, store: &[u8]) -> String {
     }
 }
 
-/// What a call told, for people.
-pub fn told(told: &Told) -> String {
-    format!("{:?} {}", told.returned, octets(&told.out))
+/// What a call gave back, for people.
+pub fn outcome(outcome: &Outcome) -> String {
+    format!("{:?} {}", outcome.returned, octets(&outcome.out))
 }
 
 #[cfg(test)]

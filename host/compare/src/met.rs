@@ -1,6 +1,6 @@
 //! What the calls led to, counted, and what must have been met.
 
-use crate::call::{Call, Returned, Told};
+use crate::call::{Call, Outcome, Returned};
 use crate::make::head::Clause;
 use reference::association::CHUNK_SIZES;
 use reference::chain::Fields;
@@ -8,18 +8,18 @@ use reference::header::INTERLEAVED;
 use std::collections::BTreeMap;
 use std::fmt;
 
-/// Outcomes and how often they were met.
+/// Outcomes, described, and how often they were met.
 #[derive(Clone, Debug, Default)]
 pub struct Met(BTreeMap<String, u64>);
 
 impl Met {
     /// Counts what a call led to.
-    pub fn count(&mut self, call: &Call, told: &Told) {
-        let outcome = format!("{} {}", name(call), outcome(call, told));
-        *self.0.entry(outcome).or_default() += 1;
-        if matches!(call, Call::Answer(_)) && told.returned.refusal() == 0 {
-            let Returned::Written(written) = told.returned else { return };
-            let fields = Fields::of(&told.out[..written.length.into()]);
+    pub fn count(&mut self, call: &Call, outcome: &Outcome) {
+        let key = format!("{} {}", name(call), described(call, outcome));
+        *self.0.entry(key).or_default() += 1;
+        if matches!(call, Call::Answer(_)) && outcome.returned.refusal() == 0 {
+            let Returned::Written(written) = outcome.returned else { return };
+            let fields = Fields::of(&outcome.out[..written.length.into()]);
             for field in fields.map_while(Result::ok) {
                 self.also(&format!("answer field {:04x}", field.kind));
             }
@@ -33,20 +33,20 @@ impl Met {
 
     /// The calls counted.
     pub fn calls(&self) -> u64 {
-        let calls = self.0.iter().filter(|(outcome, _)| !outcome.starts_with("also: "));
+        let calls = self.0.iter().filter(|(key, _)| !key.starts_with("also: "));
         calls.map(|(_, count)| count).sum()
     }
 
     /// What must be met and was not.
     pub fn missing(&self) -> Vec<String> {
-        let missing = |outcome: &String| !self.0.contains_key(outcome);
+        let missing = |key: &String| !self.0.contains_key(key);
         required().into_iter().filter(missing).collect()
     }
 }
 
 impl fmt::Display for Met {
     fn fmt(&self, f: &mut fmt::Formatter) -> fmt::Result {
-        self.0.iter().try_for_each(|(outcome, count)| writeln!(f, "{count:>10}  {outcome}"))
+        self.0.iter().try_for_each(|(key, count)| writeln!(f, "{count:>10}  {key}"))
     }
 }
 
@@ -82,15 +82,16 @@ fn interleaved(datagram: &[u8]) -> &'static str {
     }
 }
 
-fn outcome(call: &Call, told: &Told) -> String {
-    let refusal = told.returned.refusal();
+/// An outcome in words: the refusal, or 0 and what sets it apart from other successes.
+fn described(call: &Call, outcome: &Outcome) -> String {
+    let refusal = outcome.returned.refusal();
     if refusal != 0 {
         return refusal.to_string();
     }
-    match (call, &told.returned) {
+    match (call, &outcome.returned) {
         (Call::Poll { .. }, _) => {
-            let known = told.out[16..24] != [0; 8];
-            format!("0 {}{}", interleaved(&told.out), if known { " with cookie" } else { "" })
+            let known = outcome.out[16..24] != [0; 8];
+            format!("0 {}{}", interleaved(&outcome.out), if known { " with cookie" } else { "" })
         }
         (Call::Receive { datagram, .. }, Returned::Received(received)) => {
             let (judgement, chunk) = (received.judgement, received.chunk);
@@ -99,7 +100,7 @@ fn outcome(call: &Call, told: &Told) -> String {
         (_, Returned::Verdict(verdict)) => format!("0 {}", verdict.verdict),
         (Call::Publish { selected, .. }, _) => format!("0 of {}", selected.count_ones().min(2)),
         (Call::Answer(args), _) => {
-            format!("0 {} to {}", interleaved(&told.out), interleaved(&args.request))
+            format!("0 {} to {}", interleaved(&outcome.out), interleaved(&args.request))
         }
         _ => "0".into(),
     }

@@ -1,6 +1,6 @@
 //! The reference's sides: its plain table and store, and lent octets.
 
-use crate::call::{Call, Returned, Side, Told};
+use crate::call::{Call, Outcome, Returned, Side};
 use crate::convert::{
     arguments, from_ffi, mode, plainly, read, received, verdict, weight, written,
 };
@@ -70,7 +70,7 @@ fn lent_out(call: &Call) -> Vec<u8> {
 }
 
 impl Side for Plain {
-    fn make(&mut self, call: &Call) -> Told {
+    fn make(&mut self, call: &Call) -> Outcome {
         let mut out = lent_out(call);
         let table = &mut self.table;
         let returned = match *call {
@@ -105,7 +105,7 @@ impl Side for Plain {
             }
             _ => single(call, &mut out),
         };
-        Told::new(returned, out)
+        Outcome::new(returned, out)
     }
 
     fn table(&self) -> Vec<u8> {
@@ -120,7 +120,7 @@ impl Side for Plain {
 }
 
 impl Side for Lent {
-    fn make(&mut self, call: &Call) -> Told {
+    fn make(&mut self, call: &Call) -> Outcome {
         let mut out = lent_out(call);
         let (table, store) = (&mut self.table[..], &mut self.store[..]);
         let returned = match *call {
@@ -151,7 +151,7 @@ impl Side for Lent {
             }
             _ => single(call, &mut out),
         };
-        Told::new(returned, out)
+        Outcome::new(returned, out)
     }
 
     fn table(&self) -> Vec<u8> {

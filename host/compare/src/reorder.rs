@@ -1,6 +1,6 @@
 //! Reorderings of a list of calls that keep each association's own order.
 
-use crate::call::{Call, Side, Told};
+use crate::call::{Call, Outcome, Side};
 use crate::library::Library;
 use crate::line;
 use crate::make;
@@ -56,14 +56,14 @@ fn reordering(random: &mut Random, calls: &[Call]) -> Vec<usize> {
     order
 }
 
-/// Makes the calls in this order from a cleared table; gives what each told, by
+/// Makes the calls in this order from a cleared table; gives what each gave back, by
 /// the call's number, and the table's octets at the end.
-fn made(calls: &[Call], order: &[usize]) -> (Vec<Told>, Vec<u8>) {
+fn made(calls: &[Call], order: &[usize]) -> (Vec<Outcome>, Vec<u8>) {
     let mut library = Library::new(&[0; TABLE_OCTETS], &[0; 16], 0);
-    let mut told: Vec<(usize, Told)> =
+    let mut outcomes: Vec<(usize, Outcome)> =
         order.iter().map(|&i| (i, library.make(&calls[i]))).collect();
-    told.sort_by_key(|(i, _)| *i);
-    (told.into_iter().map(|(_, told)| told).collect(), library.table())
+    outcomes.sort_by_key(|(i, _)| *i);
+    (outcomes.into_iter().map(|(_, outcome)| outcome).collect(), library.table())
 }
 
 /// What was compared.
@@ -81,14 +81,14 @@ pub fn run(seed: u64) -> Result<Reordered, String> {
     let length = random.pick(&[10, 40, 120]);
     let calls = list(&mut random, length);
     let straight: Vec<usize> = (0..length).collect();
-    let (told, table) = made(&calls, &straight);
+    let (outcomes, table) = made(&calls, &straight);
     let mut done = Reordered { calls: length, orders: 0 };
     for _ in 0..4 {
         let order = reordering(&mut random, &calls);
         done.calls += length;
         done.orders += usize::from(order != straight);
-        let (other_told, other_table) = made(&calls, &order);
-        if other_told != told || other_table != table {
+        let (other_outcomes, other_table) = made(&calls, &order);
+        if other_outcomes != outcomes || other_table != table {
             let lines: Vec<String> = order.iter().map(|&i| line::line(&calls[i], &[])).collect();
             let lines = lines.join("\n");
             return Err(format!("# list with seed {seed:#x}, order {order:?}:\nclear\n{lines}"));

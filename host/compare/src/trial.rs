@@ -1,6 +1,6 @@
 //! Random calls made on the library and on the reference, and compared.
 
-use crate::call::{Call, Returned, Side, Told};
+use crate::call::{Call, Outcome, Returned, Side};
 use crate::library::Library;
 use crate::line;
 use crate::make;
@@ -45,17 +45,17 @@ fn kind(random: &mut Random) -> Kind {
 }
 
 /// Makes at least `count` calls, in lists each with a seed of its own. A difference
-/// is told with the calls that led to it.
+/// is returned with the calls that led to it.
 pub fn run(seed: u64, count: u64, met: &mut Met) -> Result<(), String> {
     let mut random = Random::new(seed);
     let mut done = 0;
     while done < count {
         let kind = kind(&mut random);
         let own = random.any();
-        // Lines are long: only a list that failed is made again to be told.
+        // Lines are long: only a list that failed is made again with its lines kept.
         done += list(kind, own, false, met).or_else(|_| {
-            let told = list(kind, own, true, &mut Met::default());
-            told.map_err(|text| format!("# {kind:?} list with seed {own:#x} of {seed:#x}:\n{text}"))
+            let kept = list(kind, own, true, &mut Met::default());
+            kept.map_err(|text| format!("# {kind:?} list with seed {own:#x} of {seed:#x}:\n{text}"))
         })?;
     }
     Ok(())
@@ -91,8 +91,8 @@ fn reached(kind: Kind, random: &mut Random, keep: bool, met: &mut Met) -> Result
             _ => make::single::call(random),
         };
         let before = plain.clone();
-        let told = trial.compare(&call, &mut plain, met)?;
-        if let Some(what) = noted(&call, &told, &before, records) {
+        let outcome = trial.compare(&call, &mut plain, met)?;
+        if let Some(what) = noted(&call, &outcome, &before, records) {
             met.also(&what);
         }
     }
@@ -100,8 +100,8 @@ fn reached(kind: Kind, random: &mut Random, keep: bool, met: &mut Met) -> Result
 }
 
 /// What else must be met: filters taken a second time, and answers from a full row.
-fn noted(call: &Call, told: &Told, before: &Plain, records: usize) -> Option<String> {
-    match (call, told.returned) {
+fn noted(call: &Call, outcome: &Outcome, before: &Plain, records: usize) -> Option<String> {
+    match (call, outcome.returned) {
         (Call::Receive { association, .. }, Returned::Received(received)) => {
             let place = before.table.places.get(usize::from(*association))?;
             let open = place.0.as_ref().filter(|open| open.taken.complete())?;
@@ -111,7 +111,7 @@ fn noted(call: &Call, told: &Told, before: &Plain, records: usize) -> Option<Str
         (Call::Answer(args), Returned::Written(written)) => {
             let full = before.store.row().len() == records && written.refusal == 0;
             let asked = full && args.request[7] & 2 != 0;
-            let mode = if told.out.get(7)? & 2 != 0 { "interleaved" } else { "basic" };
+            let mode = if outcome.out.get(7)? & 2 != 0 { "interleaved" } else { "basic" };
             asked.then(|| format!("answer from a full row, {mode}"))
         }
         _ => None,
@@ -144,11 +144,11 @@ fn any(kind: Kind, random: &mut Random, keep: bool, met: &mut Met) -> Result<u64
             (false, true) => Call::StoreClear,
             (false, false) => make::responder::call(random, &make::lent::known_row(&side.store)),
         };
-        let told = trial.compare(&call, &mut side, met)?;
+        let outcome = trial.compare(&call, &mut side, met)?;
         if call == Call::Clear {
             broken = Broken::default();
         }
-        if let Some(clause) = refused_for(&call, &told, &broken) {
+        if let Some(clause) = refused_for(&call, &outcome, &broken) {
             met.also(&format!("head out of range: {clause:?}"));
         }
     }
@@ -157,9 +157,9 @@ fn any(kind: Kind, random: &mut Random, keep: bool, met: &mut Met) -> Result<u64
 
 /// The clause that is broken in the one head that a refused call was to read, unless the call's
 /// own arguments are refused with 6 too.
-fn refused_for(call: &Call, told: &Told, broken: &Broken) -> Option<Clause> {
+fn refused_for(call: &Call, outcome: &Outcome, broken: &Broken) -> Option<Clause> {
     let named = reorder::names(call);
-    if told.returned.refusal() != 6 || !named.is_power_of_two() {
+    if outcome.returned.refusal() != 6 || !named.is_power_of_two() {
         return None;
     }
     let clause = broken[named.trailing_zeros() as usize]?;
@@ -167,28 +167,33 @@ fn refused_for(call: &Call, told: &Told, broken: &Broken) -> Option<Clause> {
 }
 
 impl Trial {
-    /// Makes the call on every side and compares all that it told and left.
-    fn compare(&mut self, call: &Call, side: &mut dyn Side, met: &mut Met) -> Result<Told, String> {
+    /// Makes the call on every side and compares all that it gave back and left.
+    fn compare(
+        &mut self,
+        call: &Call,
+        side: &mut dyn Side,
+        met: &mut Met,
+    ) -> Result<Outcome, String> {
         if self.keep {
             self.made.push(line::line(call, &self.library.store()));
         }
-        let told = self.library.make(call);
-        met.count(call, &told);
-        let mut faults: Vec<String> = told.stray.iter().cloned().collect();
+        let outcome = self.library.make(call);
+        met.count(call, &outcome);
+        let mut faults: Vec<String> = outcome.stray.iter().cloned().collect();
         let lent = self.lent.as_mut().map(|lent| lent as &mut dyn Side);
         for side in [Some(side), lent].into_iter().flatten() {
             let expected = side.make(call);
-            if expected.returned != told.returned || expected.out != told.out {
-                faults.push(format!("reference: {}", line::told(&expected)));
+            if expected.returned != outcome.returned || expected.out != outcome.out {
+                faults.push(format!("reference: {}", line::outcome(&expected)));
             }
             faults.extend(differing("table", &self.library.table(), &side.table()));
             faults.extend(differing("store", &self.library.store(), &side.store()));
         }
         if faults.is_empty() {
-            return Ok(told);
+            return Ok(outcome);
         }
-        let (made, told) = (self.made.join("\n"), line::told(&told));
-        Err(format!("{made}\n# library: {told}\n# {}", faults.join("\n# ")))
+        let (made, outcome) = (self.made.join("\n"), line::outcome(&outcome));
+        Err(format!("{made}\n# library: {outcome}\n# {}", faults.join("\n# ")))
     }
 }
 

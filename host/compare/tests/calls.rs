@@ -1,4 +1,4 @@
-//! Random calls: the library and the reference tell and leave the same.
+//! Random calls: the library and the reference give back and leave the same.
 #![forbid(unsafe_code)]
 
 use compare::met::Met;
@@ -19,7 +19,7 @@ fn library_is_reference() {
 }
 
 #[test]
-fn reorderings_tell_the_same() {
+fn reorderings_give_the_same() {
     let mut orders = 0;
     for seed in 0..200 {
         match reorder::run(seed) {

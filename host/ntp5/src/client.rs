@@ -142,17 +142,17 @@ impl<B: AsRef<[u8]> + AsMut<[u8]>> Table<B> {
         datagram: &[u8],
         t4: u64,
     ) -> Result<Received, Refusal> {
-        let told = calls::receive(self.0.as_mut(), association, datagram, t4);
-        Refusal::check(told.refusal)?;
-        let measured = match told.judgement {
-            0 => Ok(Measured { offset: told.offset, delay: told.delay }),
+        let returned = calls::receive(self.0.as_mut(), association, datagram, t4);
+        Refusal::check(returned.refusal)?;
+        let measured = match returned.judgement {
+            0 => Ok(Measured { offset: returned.offset, delay: returned.delay }),
             1 => Err(Unusable::Leap),
             2 => Err(Unusable::Stratum),
             3 => Err(Unusable::Timescale),
             4 => Err(Unusable::Timestamp),
             other => unreachable!("judgement {other}"),
         };
-        let chunk = match told.chunk {
+        let chunk = match returned.chunk {
             1 => Chunk::Taken,
             2 => Chunk::Absent,
             3 => Chunk::AnotherSize,
@@ -163,9 +163,9 @@ impl<B: AsRef<[u8]> + AsMut<[u8]>> Table<B> {
 
     /// Whether the association's server follows the ID (refusals 6, 7).
     pub fn loop_verdict(&self, association: u8, id: &ReferenceId) -> Result<Verdict, Refusal> {
-        let told = calls::loop_verdict(self.0.as_ref(), association, &id.0);
-        Refusal::check(told.refusal)?;
-        Ok(match told.verdict {
+        let returned = calls::loop_verdict(self.0.as_ref(), association, &id.0);
+        Refusal::check(returned.refusal)?;
+        Ok(match returned.verdict {
             1 => Verdict::Incomplete,
             2 => Verdict::Loop,
             3 => Verdict::Clear,

@@ -66,7 +66,7 @@ pub enum Chunk {
     AnotherSize = 3,
 }
 
-/// What an accepted response told.
+/// What an accepted response gave.
 #[derive(Clone, Copy, Debug, PartialEq, Eq)]
 pub struct Received {
     /// Whether it is usable.

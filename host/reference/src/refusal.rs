@@ -16,7 +16,7 @@ pub enum Refusal {
     FieldPadding = 5,
     /// An argument is out of range.
     Argument = 6,
-    /// The call does not suit the association's state.
+    /// The association's state does not allow the call.
     State = 7,
     /// A cookie is zero or repeated.
     Cookie = 8,

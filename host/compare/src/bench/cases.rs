@@ -2,7 +2,7 @@
 
 use super::rival::{lent, plain};
 use super::state::{poll_request, server, State};
-use super::{Case, Outcome, Reset};
+use super::{Case, HasRefusal, Reset};
 use ntp5::ffi::calls;
 use reference::chain;
 use reference::header::{Header, ServerCookie, REQUEST};

@@ -89,34 +89,34 @@ impl Case {
 }
 
 /// What a measured call gives back.
-trait Outcome {
+trait HasRefusal {
     /// 0, or the refusal number.
     fn refusal(&self) -> u8;
 }
 
-/// The outcomes that hold their refusal.
-macro_rules! outcomes {
-    ($($kind:ty: |$told:ident| $refusal:expr;)*) => {
-        $(impl Outcome for $kind {
+/// What holds its refusal, or cannot be refused.
+macro_rules! have_refusal {
+    ($($kind:ty: |$returned:ident| $refusal:expr;)*) => {
+        $(impl HasRefusal for $kind {
             fn refusal(&self) -> u8 {
-                let $told = self;
+                let $returned = self;
                 $refusal
             }
         })*
     };
 }
 
-outcomes! {
-    u8: |told| *told;
-    ffi::Written: |told| told.refusal;
-    ffi::Received: |told| told.refusal;
-    ffi::Verdict: |told| told.refusal;
-    ffi::Weight: |told| told.refusal;
-    i64: |_told| 0;
-    u64: |_told| 0;
+have_refusal! {
+    u8: |returned| *returned;
+    ffi::Written: |returned| returned.refusal;
+    ffi::Received: |returned| returned.refusal;
+    ffi::Verdict: |returned| returned.refusal;
+    ffi::Weight: |returned| returned.refusal;
+    i64: |_returned| 0;
+    u64: |_returned| 0;
 }
 
-impl<T> Outcome for Result<T, Refusal> {
+impl<T> HasRefusal for Result<T, Refusal> {
     fn refusal(&self) -> u8 {
         self.as_ref().err().map_or(0, |refusal| refusal.number())
     }

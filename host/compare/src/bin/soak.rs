@@ -1,4 +1,4 @@
-//! `soak COUNT [SEED]`: compares COUNT random calls and tells how far it got.
+//! `soak COUNT [SEED]`: compares COUNT random calls and prints how far it got.
 #![forbid(unsafe_code)]
 
 use compare::met::Met;

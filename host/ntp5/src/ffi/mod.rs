@@ -14,7 +14,7 @@ pub struct Written {
     pub length: u16,
 }
 
-/// `ntp5_received`: what a response told.
+/// `ntp5_received`: what a response gave.
 #[repr(C)]
 #[derive(Clone, Copy, Debug, PartialEq, Eq)]
 pub struct Received {
