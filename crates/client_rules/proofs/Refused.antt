@@ -28,7 +28,7 @@ use Rattle.client_rules.specs.Call.{Call, clearTable, openOne, closeOne,
 use Rattle.client_rules.specs.Select.{Seen, wrongId, allSelected, inRangeSeen, completeSeen, verdictFor, publishFor}
 use Rattle.client_rules.specs.Step.{eventOn, clearing, publishing}
 use Rattle.client_rules.specs.Octets.{tableSize, part, putPart, atOctets, seenOctets}
-use Rattle.client_rules.specs.Refused.{lent, refusalsOf, Refused, Refusals}
+use Rattle.client_rules.specs.Refused.{lent, refusalsOf, RefusedCall, Refusals}
 
 -- ---- the numbers
 
@@ -131,11 +131,11 @@ plainly-receive = record { number = λ r. number-of (r .refusal) _ [] refl; plai
 -- ---- the calls
 
 -- a refusal that is answered as it is
-plain-refused : (c : Call) (t : List ℕ) (n : ℕ) → among n (refusalsOf c) ≡ true → Refused c t (plainAnswer n (lent c), t)
+plain-refused : (c : Call) (t : List ℕ) (n : ℕ) → among n (refusalsOf c) ≡ true → RefusedCall c t (plainAnswer n (lent c), t)
 plain-refused c t n h = record { table-kept = refl; zeros = refl; number = h }
 
 event-refused : (c : Call) (a : ℕ) (e : Event) (datagram : List ℕ) (answer : Reply → Answer) (t : List ℕ) → Known e → refusalsOf c ≡ 6 ∷ laterOf e → Plainly answer (lent c)
-    → (answer (atOctets a e datagram t .0) .refusal ≡ 0 → ⊥) → Refused c t (answer (atOctets a e datagram t .0), atOctets a e datagram t .1)
+    → (answer (atOctets a e datagram t .0) .refusal ≡ 0 → ⊥) → RefusedCall c t (answer (atOctets a e datagram t .0), atOctets a e datagram t .1)
 event-refused c a e datagram answer t k r s f =
     let w = atOctets a e datagram t in
     let i = kept-at a e datagram t k in
@@ -149,7 +149,7 @@ event-refused c a e datagram answer t k r s f =
 
 -- of a call that only reads
 abbrev IfRefused : Call → List ℕ → Answer → Type 0
-IfRefused c t w = (w .refusal ≡ 0 → ⊥) → Refused c t (w, t)
+IfRefused c t w = (w .refusal ≡ 0 → ⊥) → RefusedCall c t (w, t)
 
 verdict-refused : (a : ℕ) (id t : List ℕ) (s : Seen) → among (s .refusal) (0 ∷ 6 ∷ 7 ∷ []) ≡ true → IfRefused (loopVerdict a id) t (verdictFor id s)
 verdict-refused a id t s h =
@@ -168,7 +168,7 @@ publish-refused selected id out t see =
 pub refusals : Refusals
 unfolding clearing publishing
 refusals clearTable t =
-    by-test (λ (w : Answer × List ℕ). (w .0 .refusal ≡ 0 → ⊥) → Refused clearTable t w) (eqb (length t) tableSize)
+    by-test (λ (w : Answer × List ℕ). (w .0 .refusal ≡ 0 → ⊥) → RefusedCall clearTable t w) (eqb (length t) tableSize)
     (λ x n. absurd (n refl)) (λ x n. plain-refused clearTable t 6 refl)
 refusals (openOne a timescale c) t = event-refused _ a _ [] refusalAnswer t tt refl plainly-refusal
 refusals (closeOne a) t = event-refused _ a _ [] refusalAnswer t tt refl plainly-refusal

@@ -32,14 +32,14 @@ refusalsOf (loopVerdict a id) = 6 ∷ 7 ∷ []
 refusalsOf (publish selected id out) = 6 ∷ 7 ∷ 11 ∷ []
 
 -- what a refused call answers and leaves
-pub record Refused (c : Call) (t : List ℕ) (w : Answer × List ℕ) : Type 0 where
+pub record RefusedCall (c : Call) (t : List ℕ) (w : Answer × List ℕ) : Type 0 where
   pub table-kept : w .1 ≡ t
   -- the output is as lent, and every number of the answer but the refusal is 0
   pub zeros : w .0 ≡ plainAnswer (w .0 .refusal) (lent c)
   pub number : among (w .0 .refusal) (refusalsOf c) ≡ true
 
 abbrev pub RefusalsFor : Client → Type 0
-RefusalsFor step = (c : Call) (t : List ℕ) → (step c t .0 .refusal ≡ 0 → ⊥) → Refused c t (step c t)
+RefusalsFor step = (c : Call) (t : List ℕ) → (step c t .0 .refusal ≡ 0 → ⊥) → RefusedCall c t (step c t)
 
 abbrev pub Refusals : Type 0
 Refusals = RefusalsFor stepOctets

@@ -1,2 +1,2 @@
 -- A refusal changes nothing. Assumes nothing.
-pub mod Refusals
+pub mod Refused

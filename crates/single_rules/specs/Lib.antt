@@ -1,3 +1,3 @@
 -- The calls on one datagram or one filter, and their refusals.
 pub mod Single
-pub mod Refusals
+pub mod Refused

@@ -13,7 +13,7 @@ use Rattle.filter.specs.Calls.{isFilter, isId}
 use Rattle.filter_weight.specs.Weighing.{numbers}
 use Rattle.filter_weight.specs.declared.Weighing.{Weighing}
 use Rattle.single_rules.specs.Single.{Call, headerRead, headerWrite, sound, filterAdd, filterUnion, filterWeight, lent, Answer, plainAnswer, readAnswer, outputAnswer, weightAnswer}
-use Rattle.single_rules.specs.Refusals.{refusalsOf, Refusal, Refusals}
+use Rattle.single_rules.specs.Refused.{refusalsOf, RefusedCall, Refusals}
 
 -- what holds of both choices holds of the one that is taken
 either : {A : Type 0} (P : A → Type 0) (b : Bool) {x y : A} → P x → P y → P (cond b x y)
@@ -22,7 +22,7 @@ either P false p q = q
 
 -- an answer that, where it is a refusal, is as the claim says
 abbrev IfRefused : Call → Answer → Type 0
-IfRefused c w = (w .refusal ≡ 0 → ⊥) → Refusal c w
+IfRefused c w = (w .refusal ≡ 0 → ⊥) → RefusedCall c w
 
 accepted : (c : Call) (w : Answer) → w .refusal ≡ 0 → IfRefused c w
 accepted c w e f = absurd (f e)

@@ -16,11 +16,11 @@ refusalsOf (filterAdd filter id) = 6 ∷ []
 refusalsOf (filterUnion into other) = 6 ∷ []
 refusalsOf (filterWeight filter) = 6 ∷ []
 
-pub record Refusal (c : Call) (w : Answer) : Type 0 where
+pub record RefusedCall (c : Call) (w : Answer) : Type 0 where
   -- nothing but the number is answered, and the octets lent are as they were
   pub unchanged : w ≡ plainAnswer (w .refusal) (lent c)
   -- the number is one of the page's that concern the call
   pub number : among (w .refusal) (refusalsOf c) ≡ true
 
 abbrev pub Refusals : Type 0
-Refusals = (c : Call) → (step c .refusal ≡ 0 → ⊥) → Refusal c (step c)
+Refusals = (c : Call) → (step c .refusal ≡ 0 → ⊥) → RefusedCall c (step c)
