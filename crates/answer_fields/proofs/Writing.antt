@@ -17,9 +17,6 @@ use Rattle.responder_rules.specs.Answer.{paddingOf}
 
 -- the two parts of a source that are sent from its start
 
-pub information-whole : (s : List ℕ) → length s ≡ 4 → take 4 (drop 0 s) ≡ s
-information-whole s e = take-all 4 s (omega arith)
-
 pub name-cut : (k : ℕ) → take (min k 27) (drop 0 draftName) ≡ take k draftName
 unfolding draftName
 name-cut k = go (leb k 27) refl

@@ -116,7 +116,7 @@ record Plainly (answer : Reply → Answer) (out : List ℕ) : Type 0 where
   number : (r : Reply) → answer r .refusal ≡ r .refusal
   plain : (r : Reply) → (r .refusal ≡ 0 → ⊥) → answer r ≡ plainAnswer (r .refusal) out
 
-number-of : (n : ℕ) (w : Answer) (out : List ℕ) → w .refusal ≡ 0 → cond (eqb n 0) w (plainAnswer n out) .refusal ≡ n
+pub number-of : (n : ℕ) (w : Answer) (out : List ℕ) → w .refusal ≡ 0 → cond (eqb n 0) w (plainAnswer n out) .refusal ≡ n
 number-of n w out z = by-test (λ (x : Answer). x .refusal ≡ n) (eqb n 0) (λ e. z ∙ sym (eqb-true n 0 e)) (λ e. refl)
 
 plain-of : (n : ℕ) (w : Answer) (out : List ℕ) → (n ≡ 0 → ⊥) → cond (eqb n 0) w (plainAnswer n out) ≡ plainAnswer n out

@@ -21,7 +21,7 @@ use Rattle.state.specs.declared.event.Event.the-variants.{Open}
 use Rattle.order.specs.Order.{after}
 use Rattle.client_rules.specs.Call.{openOne}
 use Rattle.client_rules.specs.Plain.{closedTable}
-use Rattle.client_rules.proofs.Demand3.{closed-at}
+use Rattle.octets.proofs.Parts.{replicate-at}
 use Rattle.reach.specs.Reach.{EveryInRange}
 use Rattle.reach.proofs.Only.{head-after}
 use Rattle.reach.proofs.Calls.{From, call, Polls, ask, round}
@@ -103,5 +103,5 @@ every-in-range a inside h fits g =
     record {
       calls = l .calls;
       typed = l .typed;
-      leads = λ t n. head-after t n (l .calls) (l .typed) a inside ∙ l .leads closedTable refl (closed-at 16 a);
+      leads = λ t n. head-after t n (l .calls) (l .typed) a inside ∙ l .leads closedTable refl (replicate-at 16 a closed);
     }

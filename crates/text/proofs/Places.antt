@@ -8,7 +8,7 @@ use native.Mathlib.Omega.{arith}
 use borrow.Author.Tests.{le-leb, lt-leb, leb-true, leb-false, eq-eqb, eqb-true}
 use lib.Dec.{leb, eqb}
 use lib.ListN.{length, getD, take, drop, length-drop, drop-of-length-le}
-use lib.Seq.{take-all, drop-cons, drop-drop, drop-length}
+use lib.Seq.{drop-cons, drop-drop, drop-length}
 use Rattle.text.specs.Place.{partOf, fits, onward, ahead, octetPlace, pieceFrom, pieceOf, sameOf}
 
 -- a part that begins after its end is empty
@@ -25,10 +25,6 @@ part-past s from to h = rw (lt-leb to (length s) h)
 
 pub part-inside : (s : List ℕ) (from to : ℕ) → to ≤ length s → take (to - from) (drop from s) ≡ partOf s from to
 part-inside s from to h = rw (le-leb to (length s) h)
-
--- all that is left
-pub take-rest : (s : List ℕ) (from : ℕ) → take (length s - from) (drop from s) ≡ drop from s
-take-rest s from = take-all (length s - from) (drop from s) (omega (arith, length-drop from s))
 
 module _ (octet : ℕ) (same : Bool) where
   -- looking at one octet more

@@ -2,7 +2,7 @@
 use mathlib.Core.Path.{_≡_, refl, sym, ap, _∙_, subst, subst⁻¹}
 use mathlib.Core.Bool.{Bool, true, false}
 use mathlib.Core.List.{List, [], _∷_, _++_}
-use Prim.Native.Nat.{ℕ, _+_, _<_}
+use Prim.Native.Nat.{ℕ, _<_}
 use native.Mathlib.Omega.{arith}
 use borrow.Author.Tests.{ltb-true, ltb-false}
 use lib.Dec.{ltb}
@@ -29,7 +29,7 @@ use Rattle.client_rules.proofs.Simulate.{at-in, at-out}
 use Rattle.client_rules.proofs.Demand3.{simulates, good-reached, call-reached}
 use Rattle.together.specs.Together.{Polling, pollOf, polling, callsOf, StaysOutstanding, Asks}
 use Rattle.together.proofs.Served.{Ranges}
-use Rattle.together.proofs.Refused.{reply-number}
+use Rattle.client_rules.proofs.Refused.{number-of}
 use Rattle.together.proofs.Waiting.{askedOf, Polled, polled-place, Waits, polled-waits, calls-wait}
 
 pub record Written (k : Polling) : Type 0 where
@@ -78,7 +78,7 @@ module _ (k : Polling) (h : Asks k) where
 
   not-refused : atPlace a event [] places .0 .refusal ≡ 0
   not-refused =
-      sym (reply-number (atPlace a event [] places .0 .refusal) (k .out) _ refl)
+      sym (number-of (atPlace a event [] places .0 .refusal) _ (k .out) refl)
       ∙ ap (λ (w : Answer). w .refusal) (sym plain-answer) ∙ h .success
 
   inside : a < 16

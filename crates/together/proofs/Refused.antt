@@ -1,9 +1,8 @@
 -- A refused call leaves the plain table as it was. Assumes nothing.
 use mathlib.Core.Path.{_≡_, refl, sym, ap, _∙_}
-use mathlib.Core.Bool.{Bool, true, false, cond, true≢false}
+use mathlib.Core.Bool.{true, false, true≢false}
 use mathlib.Core.List.{List, []}
 use Prim.Native.Nat.{ℕ}
-use borrow.Author.Tests.{eqb-true}
 use lib.Dec.{eqb, ltb}
 use lib.ListN.{length, getD, set}
 use lib.Seq.{set-getD}
@@ -14,7 +13,8 @@ use Rattle.state.specs.declared.event.Event.the-variants.{Poll, Receive}
 use Rattle.state.specs.declared.event.Reply.{Reply}
 use Rattle.octets.proofs.Tests.{by-test}
 use Rattle.association.proofs.Simulate.{refused-same}
-use Rattle.client_rules.specs.Call.{Call, clearTable, openOne, closeOne, poll, sent, receive, loopVerdict, publish, Answer, plainAnswer}
+use Rattle.client_rules.proofs.Refused.{number-of}
+use Rattle.client_rules.specs.Call.{Call, clearTable, openOne, closeOne, poll, sent, receive, loopVerdict, publish}
 use Rattle.client_rules.specs.Step.{eventOn, clearing}
 use Rattle.client_rules.specs.Plain.{stepPlain}
 use Rattle.client_rules.proofs.Tables.{atPlace}
@@ -26,21 +26,13 @@ event-refused a e datagram ps =
     (λ t n. ap (set ps a) (refused-same e datagram (getD ps a closed) n) ∙ set-getD ps a closed)
     (λ t n. refl)
 
--- an answer that is made of a reply has its refusal
-pub reply-number : (n : ℕ) (out : List ℕ) (w : Answer) → w .refusal ≡ 0 → cond (eqb n 0) w (plainAnswer n out) .refusal ≡ n
-reply-number n out w z = go (eqb n 0) refl
-  where
-    go : (b : Bool) → eqb n 0 ≡ b → cond b w (plainAnswer n out) .refusal ≡ n
-    go true e = z ∙ sym (eqb-true _ _ e)
-    go false e = refl
-
 pub call-refused : (c : Call) (ps : List Place) → eqb (stepPlain c ps .0 .refusal) 0 ≡ false → stepPlain c ps .1 ≡ ps
 unfolding clearing
 call-refused clearTable ps n = absurd (true≢false n)
 call-refused (openOne a timescale c) ps n = event-refused a _ _ ps n
 call-refused (closeOne a) ps n = event-refused a _ _ ps n
-call-refused (poll a cookie exponent interleaved out) ps n = event-refused a _ _ ps (sym (ap (λ (k : ℕ). eqb k 0) (reply-number (atPlace a (Poll (record { 0 = cookie }) interleaved (length out)) [] ps .0 .refusal) out _ refl)) ∙ n)
+call-refused (poll a cookie exponent interleaved out) ps n = event-refused a _ _ ps (sym (ap (λ (k : ℕ). eqb k 0) (number-of (atPlace a (Poll (record { 0 = cookie }) interleaved (length out)) [] ps .0 .refusal) _ out refl)) ∙ n)
 call-refused (sent a t1) ps n = event-refused a _ _ ps n
-call-refused (receive a datagram t4) ps n = event-refused a _ _ ps (sym (ap (λ (k : ℕ). eqb k 0) (reply-number (atPlace a (Receive (responseOf datagram t4)) datagram ps .0 .refusal) [] _ refl)) ∙ n)
+call-refused (receive a datagram t4) ps n = event-refused a _ _ ps (sym (ap (λ (k : ℕ). eqb k 0) (number-of (atPlace a (Receive (responseOf datagram t4)) datagram ps .0 .refusal) _ [] refl)) ∙ n)
 call-refused (loopVerdict a id) ps n = refl
 call-refused (publish selected id out) ps n = refl

@@ -3,7 +3,7 @@ use mathlib.Core.Path.{sym}
 use native.Mathlib.Nat.{le-of-lt}
 use lib.ListN.{drop-of-length-le}
 use borrow.Author.Needs.{needs}
-use Rattle.text.proofs.Places.{take-rest}
+use Rattle.octets.proofs.Parts.{take-rest}
 use Rattle.text.proofs.rest.Statement.{statement}
 use Rattle.text.proofs.rest.Tie as tie
 
