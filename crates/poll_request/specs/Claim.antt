@@ -15,7 +15,7 @@ use Rattle.chain.specs.Content.{contentsOf}
 use Rattle.poll_request.specs.Request.{pollHeader, pollFields, pollOctets, offsetPlace, pollLength}
 use Rattle.poll_request.specs.declared.Asked.{Asked}
 
--- what is asked is of its types, and c is a multiple of 4 up to 512
+-- what is asked is of its types, and c is a multiple of 4 from 4 to 512
 pub record InRange (q : Asked) : Type 0 where
   pub timescale : q .timescale < 2 ^ 8
   pub least : 4 ≤ q .chunk
