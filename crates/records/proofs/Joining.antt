@@ -13,9 +13,8 @@ use Rattle.store_rules.specs.Row.{Record, held}
 use Rattle.store_rules.specs.Place.{indexOf}
 use Rattle.octets.proofs.Tests.{or-none}
 use Rattle.store_rules.proofs.Rows.{held-index, index-past}
-use Rattle.records.specs.Records.{unusedRecord, leaveRecords, withCookieAtFree, joinRecords}
+use Rattle.records.specs.Records.{unusedRecord, leaveRecords, withCookieAtFree, joinRecords, placeFrom}
 use Rattle.records.specs.Value.{joinPlaceBy, joinPlaceFor}
-use Rattle.records.proofs.Slots.{placeFrom}
 use Rattle.records.proofs.Moves.{length-leave, leave-past}
 
 -- the record at a place with a cookie

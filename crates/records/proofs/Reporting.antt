@@ -12,11 +12,11 @@ use Rattle.store_rules.specs.Row.{Record, held, timeOf, reported, usedOf}
 use Rattle.store_rules.specs.Place.{indexOf}
 use Rattle.octets.proofs.Tests.{or-none}
 use Rattle.store_rules.proofs.Rows.{Parted, part-row, held-index}
-use Rattle.records.specs.Records.{recordOf, recordsIn, unusedRecord, wrongRecords, reportRecords}
+use Rattle.records.specs.Records.{recordOf, recordsIn, unusedRecord, wrongRecords, reportRecords, placeFrom}
 use Rattle.records.specs.Value.{reportedOne, absentRefusal}
 use Rattle.records.specs.declared.Record.{Record as Slot}
 use Rattle.records.specs.declared.value.Report.{Report}
-use Rattle.records.proofs.Slots.{none, length-in, get-in, set-in, placeFrom}
+use Rattle.records.proofs.Slots.{none, length-in, get-in, set-in}
 use Rattle.records.proofs.Sounds.{Sound, held-row, absent-row, time-row, right-sound}
 
 -- ---- a report, by its tests

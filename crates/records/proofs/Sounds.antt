@@ -6,12 +6,12 @@ use Prim.Native.Nat.{ℕ, suc, _+_}
 use native.Mathlib.Omega.{arith}
 use borrow.Author.Tests.{eqb-true, ne-eqb, not-true, not-false}
 use lib.Dec.{eqb}
-use lib.ListN.{length, getD}
+use lib.ListN.{length}
 use Rattle.store_rules.specs.Row.{Record, held, timeOf, unused, allUnused, usedOf, soundRecords}
 use Rattle.store_rules.specs.Place.{indexOf}
 use Rattle.octets.proofs.Tests.{or-none}
 use Rattle.store_rules.proofs.Rows.{held-append, time-append}
-use Rattle.records.specs.Records.{unusedRecord, wrongCount, wrongRecords}
+use Rattle.records.specs.Records.{timeAt, wrongCount, wrongRecords}
 
 -- an unused record has cookie 0 and time 0
 pub unused-zero : (r : Record) → unused r ≡ true → (r .cookie ≡ 0) × (r .time ≡ 0)
@@ -82,11 +82,11 @@ unfolding wrongRecords
 right-sound rs h = sound-parts rs (not-false (soundRecords rs) (or-none (wrongCount (length rs)) (not (soundRecords rs)) h .1))
 
 -- the time of a cookie stands where the cookie does
-pub time-at : (c : ℕ) (rs : List Record) → timeOf c rs ≡ getD rs (indexOf c rs) unusedRecord .time
+pub time-at : (c : ℕ) (rs : List Record) → timeOf c rs ≡ timeAt rs (indexOf c rs)
 unfolding timeOf indexOf
 time-at c [] = refl
 time-at c (r ∷ rs) = go (eqb (r .cookie) c) (time-at c rs)
   where
-    go : (b : Bool) → timeOf c rs ≡ getD rs (indexOf c rs) unusedRecord .time → cond b (r .time) (timeOf c rs) ≡ getD (r ∷ rs) (cond b 0 (1 + indexOf c rs)) unusedRecord .time
+    go : (b : Bool) → timeOf c rs ≡ timeAt rs (indexOf c rs) → cond b (r .time) (timeOf c rs) ≡ timeAt (r ∷ rs) (cond b 0 (1 + indexOf c rs))
     go true e = refl
     go false e = let o : 1 + indexOf c rs ≡ suc (indexOf c rs) = omega arith in rw o e

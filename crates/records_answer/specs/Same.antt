@@ -4,11 +4,11 @@ use mathlib.Core.Bool.{true, false, cond}
 use mathlib.Core.List.{List, [], _∷_}
 use Prim.Native.Nat.{ℕ, _+_, _*_, _/_, _<_, _^_}
 use lib.Dec.{ltb}
-use lib.ListN.{length, getD}
+use lib.ListN.{length}
 use Rattle.octets.specs.Number.{getAt}
 use Rattle.store_rules.specs.Row.{Record, held, timeOf, reported, without, joined, usedOf, rowOctets, rowOf, wrongStore, cleared, reporting}
 use Rattle.store_rules.specs.Place.{indexOf, placeOf, removed, joinedOctets}
-use Rattle.records.specs.Records.{recordsIn, unusedRecord, Fit, wrongRecords, clearRecords, reportRecords, leaveRecords, joinRecords}
+use Rattle.records.specs.Records.{recordsIn, Fit, timeAt, wrongRecords, clearRecords, reportRecords, leaveRecords, joinRecords}
 use Rattle.records.specs.declared.Record.{Record as Slot}
 use Rattle.responder_rules.specs.Answer.{Given, asking, rowAfter, answerOf}
 use Rattle.records_answer.specs.Answer.{answerRecords}
@@ -36,7 +36,7 @@ abbrev pub onRecords : Call → List Record → Returned × List Record
 onRecords clear rs = (number (clearRecords rs .0), clearRecords rs .1)
 onRecords wrong rs = (number (cond (wrongRecords rs) 1 0), rs)
 onRecords (find c) rs = (number (indexOf c rs), rs)
-onRecords (time at) rs = (number (getD rs at unusedRecord .time), rs)
+onRecords (time at) rs = (number (timeAt rs at), rs)
 onRecords (report c t) rs = (number (reportRecords rs c t .0), reportRecords rs c t .1)
 onRecords (leave at) rs = (number 0, leaveRecords rs at)
 onRecords (join c) rs = (number 0, joinRecords rs c)
@@ -97,7 +97,7 @@ pub record Holds (row rs : List Record) : Type 0 where
 -- on records that are not wrong each call is the row's, and leaves records that are not wrong
 pub record RowCalls (rs : List Record) : Type 0 where
   pub finds : (c : ℕ) → (c ≡ 0 → ⊥) → held c (usedOf rs) ≡ ltb (indexOf c rs) (length rs)
-  pub times : (c : ℕ) → timeOf c (usedOf rs) ≡ getD rs (indexOf c rs) unusedRecord .time
+  pub times : (c : ℕ) → timeOf c (usedOf rs) ≡ timeAt rs (indexOf c rs)
   pub reports : (c t : ℕ) → t < 2 ^ 64 → reportRecords rs c t .0 ≡ 0 → Holds (reported c t (usedOf rs)) (reportRecords rs c t .1)
   pub leaves : (c : ℕ) → held c (usedOf rs) ≡ true → Holds (without c (usedOf rs)) (leaveRecords rs (indexOf c rs))
   pub joins : (c : ℕ) → (c ≡ 0 → ⊥) → c < 2 ^ 64 → held c (usedOf rs) ≡ false → Holds (joined (length rs) c (usedOf rs)) (joinRecords rs c)
