@@ -3,7 +3,7 @@ use mathlib.Core.Path.{_≡_, refl, sym, subst, _∙_}
 use mathlib.Core.Bool.{Bool, true, false, cond}
 use mathlib.Core.List.{List, [], _∷_}
 use Prim.Native.Nat.{ℕ, _<_, _^_}
-use borrow.Author.Tests.{eq-eqb, ne-eqb, eqb-true, eqb-false}
+use borrow.Author.Tests.{eq-eqb, eqb-true, eqb-false}
 use lib.Dec.{eqb}
 use Rattle.store_rules.specs.Row.{Record, held, timeOf, reported, without, joined, sizeOf, wrongSize, wrongStore, cleared, reportRefusal}
 use Rattle.octets.proofs.Tests.{or-none}
@@ -185,19 +185,7 @@ once-only s h cs t =
       record-left = λ g out r. interleaved-left w g r out;
     }
 
--- ---- what `eachSentOnce` rules out
-
--- a time that was reported once and is sent twice
+-- `eachSentOnce` rules out a time that was reported once and is sent twice
 pub sent-twice : (c t u : ℕ) (es : List Event) → eachSentOnce [] (reports c t ∷ sends c t ∷ sends c u ∷ es) ≡ false
 unfolding eachSentOnce held timeOf without
 sent-twice c t u es = rw (eq-eqb c c refl, eq-eqb t t refl)
-
--- a time that was reported for another cookie
-pub sent-to-other : (c d t : ℕ) (es : List Event) → (c ≡ d → ⊥) → eachSentOnce [] (reports c t ∷ sends d t ∷ es) ≡ false
-unfolding eachSentOnce held without
-sent-to-other c d t es h = rw (ne-eqb c d h)
-
--- a time that was not reported, as an estimate
-pub sent-unreported : (c t u : ℕ) (es : List Event) → (t ≡ u → ⊥) → eachSentOnce [] (reports c t ∷ sends c u ∷ es) ≡ false
-unfolding eachSentOnce held timeOf without
-sent-unreported c t u es h = rw (eq-eqb c c refl, ne-eqb t u h)
