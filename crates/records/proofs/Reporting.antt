@@ -8,7 +8,7 @@ use borrow.Author.Tests.{eqb-true, eqb-false, lt-ltb, le-ltb}
 use lib.Dec.{eqb}
 use lib.ListN.{length, getD, set}
 use lib.Seq.{getD-at, set-at, set-getD}
-use Rattle.store_rules.specs.Row.{Record, held, timeOf, reported, usedOf}
+use Rattle.store_rules.specs.Row.{Record, held, timeOf, withTime, usedOf}
 use Rattle.store_rules.specs.Place.{indexOf}
 use Rattle.octets.proofs.Tests.{or-none}
 use Rattle.store_rules.proofs.Rows.{Parted, part-row, held-index}
@@ -38,7 +38,7 @@ module _ (rs : List Record) (c t : ℕ) where
     unfolding reportRecords
     report-again e z = rw (h, e, z)
 
-    report-zero : held c (usedOf rs) ≡ true → eqb (timeOf c (usedOf rs)) 0 ≡ true → (0, reported c t rs) ≡ reportRecords rs c t
+    report-zero : held c (usedOf rs) ≡ true → eqb (timeOf c (usedOf rs)) 0 ≡ true → (0, withTime c t rs) ≡ reportRecords rs c t
     unfolding reportRecords
     report-zero e z = rw (h, e, z)
 
@@ -84,7 +84,7 @@ module _ (rs : List Slot) (c t p : ℕ) (ep : p ≡ placeFrom (recordsIn rs) c 0
   timed : Slot
   timed = record { cookie = getD rs p none .cookie; time = t }
 
-  changed : recordsIn (set rs p timed) ≡ reported c t (recordsIn rs)
+  changed : recordsIn (set rs p timed) ≡ withTime c t (recordsIn rs)
   unfolding timed
   changed =
       let r : Record = record { cookie = c; time = t } in

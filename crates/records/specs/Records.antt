@@ -6,7 +6,7 @@ use mathlib.Core.List.{List, [], _∷_, _++_, map}
 use Prim.Native.Nat.{ℕ, _+_, _<_, _^_}
 use lib.Dec.{eqb, ltb}
 use lib.ListN.{length, getD, take, drop, replicate}
-use Rattle.store_rules.specs.Row.{Record, held, reported, usedOf, wrongRow, clearing, refusedReport, unlessRefused}
+use Rattle.store_rules.specs.Row.{Record, held, withTime, usedOf, wrongRow, clearingTo, refusedReport, keptIfRefused}
 pub use Rattle.store_rules.specs.Row.{unusedRecord}
 use Rattle.store_rules.specs.Place.{indexOf}
 use Rattle.records.specs.declared.Record.{Record as Slot}
@@ -46,13 +46,13 @@ unfoldable pub wrongRecords : List Record → Bool
 wrongRecords rs = wrongRow (wrongCount (length rs)) rs
 
 unfoldable pub clearRecords : List Record → ℕ × List Record
-clearRecords rs = clearing (wrongCount (length rs)) rs (replicate (length rs) unusedRecord)
+clearRecords rs = clearingTo (wrongCount (length rs)) rs (replicate (length rs) unusedRecord)
 
 abbrev pub reportRefusal : List Record → ℕ → ℕ → ℕ
 reportRefusal rs c t = refusedReport (wrongRecords rs) (usedOf rs) c t
 
 unfoldable pub reportRecords : List Record → ℕ → ℕ → ℕ × List Record
-reportRecords rs c t = unlessRefused (reportRefusal rs c t) rs (reported c t rs)
+reportRecords rs c t = keptIfRefused (reportRefusal rs c t) rs (withTime c t rs)
 
 -- the record at a place leaves: those after it move up by one, and the last is unused; past the end none leaves
 unfoldable pub leaveRecords : List Record → ℕ → List Record

@@ -10,12 +10,12 @@ use lib.ListN.{length, take, drop, replicate}
 use Rattle.header.specs.declared.Header.{Header}
 use Rattle.header.specs.declared.Reading.{Reading}
 use Rattle.header.specs.declared.Reading.the-variants.{Fields, Refused}
-use Rattle.store_rules.specs.Row.{Record, held, reported, without, joined, unused, usedOf}
+use Rattle.store_rules.specs.Row.{Record, held, withTime, without, joined, unused, usedOf}
 use Rattle.records.specs.Records.{unusedRecord, Fit, wrongCount, wrongRecords, clearRecords, reportRefusal, reportRecords, leaveRecords, withCookieAtFree, joinRecords}
 use Rattle.responder_rules.specs.Answer.{Given, wantsInterleaved, savedTime, rowAfter, wrongFresh, shortOutput, refusedAnswer}
-use Rattle.records_answer.specs.Step.{rowInRecords, refuse, answerStep}
+use Rattle.records_answer.specs.Step.{rowInRecords, refusedStep, answerStep}
 use Rattle.records_answer.specs.Answer.{Outcome, checkedRequest, stepOf, answerRecords}
-use Rattle.records_answer.specs.Same.{Call, clear, wrong, find, time, report, leave, join, answer, onRecords, Typed}
+use Rattle.records_answer.specs.Same.{Call, clear, wrong, find, time, report, leave, join, answer, callOnRecords, Typed}
 
 fit-append : (a b : List Record) → Fit a → Fit b → Fit (a ++ b)
 fit-append [] b f g = g
@@ -43,12 +43,12 @@ fit-clear rs f = go (wrongCount (length rs))
     go true = f
     go false = fit-unused (length rs)
 
-fit-reported : (c t : ℕ) (rs : List Record) → t < 2 ^ 64 → Fit rs → Fit (reported c t rs)
-unfolding reported
+fit-reported : (c t : ℕ) (rs : List Record) → t < 2 ^ 64 → Fit rs → Fit (withTime c t rs)
+unfolding withTime
 fit-reported c t [] h f = tt
 fit-reported c t (r ∷ rs) h f = go (eqb (r .cookie) c) refl (fit-reported c t rs h (f .2))
   where
-    go : (b : Bool) → eqb (r .cookie) c ≡ b → Fit (reported c t rs) → Fit (cond b (record { cookie = c; time = t } ∷ rs) (r ∷ reported c t rs))
+    go : (b : Bool) → eqb (r .cookie) c ≡ b → Fit (withTime c t rs) → Fit (cond b (record { cookie = c; time = t } ∷ rs) (r ∷ withTime c t rs))
     go true q g = (rw (eqb-true (r .cookie) c q) at (f .0), h, f .2)
     go false q g = (f .0, f .1, g)
 
@@ -56,7 +56,7 @@ pub fit-report : (rs : List Record) (c t : ℕ) → t < 2 ^ 64 → Fit rs → Fi
 unfolding reportRecords
 fit-report rs c t h f = go (eqb (reportRefusal rs c t) 0)
   where
-    go : (b : Bool) → Fit (cond {A = ℕ × List Record} b (0, reported c t rs) (reportRefusal rs c t, rs) .1)
+    go : (b : Bool) → Fit (cond {A = ℕ × List Record} b (0, withTime c t rs) (reportRefusal rs c t, rs) .1)
     go true = fit-reported c t rs h f
     go false = f
 
@@ -122,7 +122,7 @@ fit-answer (Fields asked) short freshCookie rs h f = let n = refusedAnswer (wron
     row : List Record
     row = rowAfter asked freshCookie (length rs) (usedOf rs)
 
-    go : (n : ℕ) (b : Bool) → Fit (cond b (record { refusal = 0; saved = savedTime asked (usedOf rs); records = rowInRecords (length rs) row }) (refuse n rs) .records)
+    go : (n : ℕ) (b : Bool) → Fit (cond b (record { refusal = 0; saved = savedTime asked (usedOf rs); records = rowInRecords (length rs) row }) (refusedStep n rs) .records)
     go n true = fit-append row (replicate (length rs - length row) unusedRecord) (fit-after asked freshCookie (length rs) (usedOf rs) h (fit-used rs f)) (fit-unused (length rs - length row))
     go n false = f
 
@@ -135,7 +135,7 @@ answer-records g rs out = go (eqb (stepOf g rs out .refusal) 0) _ refl _ refl
     go true w e v q = e
     go false w e v q = q
 
-pub fit-step : (c : Call) (rs : List Record) → Typed c → Fit rs → Fit (onRecords c rs .1)
+pub fit-step : (c : Call) (rs : List Record) → Typed c → Fit rs → Fit (callOnRecords c rs .1)
 fit-step clear rs t f = fit-clear rs f
 fit-step wrong rs t f = f
 fit-step (find c) rs t f = f
