@@ -14,7 +14,7 @@ use Rattle.store_rules.proofs.Rows.{held-append, time-append}
 use Rattle.records.specs.Records.{timeAt, wrongCount, wrongRecords}
 
 -- an unused record has cookie 0 and time 0
-pub unused-zero : (r : Record) → unused r ≡ true → (r .cookie ≡ 0) × (r .time ≡ 0)
+unused-zero : (r : Record) → unused r ≡ true → (r .cookie ≡ 0) × (r .time ≡ 0)
 unused-zero r h = let p = and-eq-true-iff (eqb (r .cookie) 0) (eqb (r .time) 0) .0 h in (eqb-true (r .cookie) 0 (p .0), eqb-true (r .time) 0 (p .1))
 
 -- unused records hold no cookie but 0
@@ -68,10 +68,6 @@ sound-parts (r ∷ rs) h = sound-more r rs (sound-parts rs) (unused r) refl h
 -- so the row holds what they hold, with its time
 pub held-row : (c : ℕ) (rs : List Record) → Sound rs → (c ≡ 0 → ⊥) → held c (usedOf rs) ≡ held c rs
 held-row c rs w z = sym (ap (held c) (w .parts) ∙ held-append c (usedOf rs) (w .rest) ∙ rw (unused-held c (w .rest) z (w .free)) (or-false (held c (usedOf rs))))
-
--- what none of them has is not in the row
-pub absent-row : (c : ℕ) (rs : List Record) → Sound rs → held c rs ≡ false → held c (usedOf rs) ≡ false
-absent-row c rs w h = or-none (held c (usedOf rs)) (held c (w .rest)) (sym (ap (held c) (w .parts) ∙ held-append c (usedOf rs) (w .rest)) ∙ h) .0
 
 pub time-row : (c : ℕ) (rs : List Record) → Sound rs → timeOf c (usedOf rs) ≡ timeOf c rs
 time-row c rs w = sym (ap (timeOf c) (w .parts) ∙ time-append c (usedOf rs) (w .rest) (unused-time c (w .rest) (w .free)))

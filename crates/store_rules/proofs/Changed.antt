@@ -33,7 +33,7 @@ time-unused c (suc k) = go (eqb 0 c) (time-unused c k)
     go false e = e
 
 -- records and their octets are compared alike
-test-16 : (i n : ℕ) → ltb i n ≡ ltb (16 * i) (16 * n)
+pub test-16 : (i n : ℕ) → ltb i n ≡ ltb (16 * i) (16 * n)
 test-16 i n = go (ltb i n) refl
   where
     go : (b : Bool) → ltb i n ≡ b → b ≡ ltb (16 * i) (16 * n)
