@@ -51,8 +51,6 @@ EXEMPT = {
     "print/src/lib.rt:problem": ({headed("r", "tt"), *map(unnamed, ("number", "word", "problem"))}, PRINTS),
     "print/src/lib.rt:result": ({headed("r", "tt"), *map(unnamed, ("row", "refusal", "octets"))}, PRINTS),
     "queries/src/lib.rt:run": ({headed("r", "tt"), *map(unnamed, ("call", "row", "line", "table"))}, PRINTS),
-    "records/src/lib.rt:find": ({headed("r", "+")}, "the place to begin at, plus a definition of specs/"),
-    "records/src/lib.rt:time": ({headed("r", "getD")}, "an element of a list that a definition of specs/ gives"),
     "rows/src/lib.rt:call_of": ({unnamed("number")}, "the line's number is only printed, beside a problem"),
     "text/src/lib.rt:rest": ({headed("now", "drop")}, KIT),
     "words/src/octet_word.rt:octets_of": ({not_left("buffer")}, "the buffer is lent on in the result, and has no value at exit"),

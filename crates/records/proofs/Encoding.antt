@@ -4,7 +4,7 @@ use mathlib.Core.Bool.{Bool, true, false, or-false}
 use mathlib.Core.List.{List, [], _∷_, _++_}
 use Prim.Native.Nat.{ℕ, zero, suc, _+_, _*_, _%_, _<_}
 use native.Mathlib.Omega.{arith}
-use borrow.Author.Tests.{ltb-true, ltb-false, lt-ltb, le-ltb, eq-eqb, le-leb, lt-leb}
+use borrow.Author.Tests.{ltb-true, ltb-false, eq-eqb, le-leb, lt-leb}
 use lib.Dec.{ltb}
 use lib.ListN.{length, getD, set, take, drop, List·getD-eq-default}
 use lib.Seq.{split-at, set-at, length-take-le}
@@ -14,7 +14,8 @@ use Rattle.store_rules.specs.Row.{Record, usedOf, rowOctets, recordsFrom, recor
 use Rattle.store_rules.specs.Place.{indexOf, placeOf}
 use Rattle.store_rules.proofs.Written.{AllFit, length-row, records-read}
 use Rattle.store_rules.proofs.Places.{put-cookie}
-use Rattle.records.specs.Records.{unusedRecord, Fit, wrongCount, wrongRecords}
+use Rattle.store_rules.proofs.Changed.{test-16}
+use Rattle.records.specs.Records.{unusedRecord, timeAt, Fit, wrongCount, wrongRecords}
 use Rattle.records.proofs.Joining.{withCookie}
 
 -- ---- sizes
@@ -22,19 +23,11 @@ use Rattle.records.proofs.Joining.{withCookie}
 pub size-is : (rs : List Record) → sizeOf (rowOctets rs) ≡ length rs
 size-is rs = omega (arith, length-row rs)
 
--- a test of octets is one of records
-pub test-16 : (i n : ℕ) → ltb (16 * i) (16 * n) ≡ ltb i n
-test-16 i n = sym (go (ltb i n) refl)
-  where
-    go : (b : Bool) → ltb i n ≡ b → b ≡ ltb (16 * i) (16 * n)
-    go true e = let l = ltb-true i n e in sym (lt-ltb (16 * i) (16 * n) (omega arith))
-    go false e = let l = ltb-false i n e in sym (le-ltb (16 * i) (16 * n) (omega arith))
-
 pub count-is : (rs : List Record) → wrongSize (rowOctets rs) ≡ wrongCount (length rs)
 count-is rs =
     let n = length rs in
     let m : 16 * n % 16 ≡ 0 = omega arith in
-    rw (length-row rs, eq-eqb (16 * n % 16) 0 m, test-16 n 1, test-16 64 n) (or-false (wrongCount n))
+    rw (length-row rs, eq-eqb (16 * n % 16) 0 m, ← test-16 n 1, ← test-16 64 n) (or-false (wrongCount n))
 
 -- ---- what octets spell
 
@@ -66,14 +59,14 @@ module _ (rs : List Record) (f : Fit rs) where
   place-is c = rw read-back
 
 -- record i of those that octets spell
-record-at : (n : ℕ) (s : List ℕ) (at i : ℕ) → i < n → getD (recordsFrom n s at) i unusedRecord .time ≡ num s (at + 16 * i + 8) 8
+record-at : (n : ℕ) (s : List ℕ) (at i : ℕ) → i < n → timeAt (recordsFrom n s at) i ≡ num s (at + 16 * i + 8) 8
 unfolding recordsFrom
 record-at zero s at i h = absurd (omega (arith, h))
 record-at (suc n) s at zero h = ap (λ (k : ℕ). num s k 8) (omega arith)
 record-at (suc n) s at (suc i) h = record-at n s (at + 16) i (omega (arith, h)) ∙ ap (λ (k : ℕ). num s k 8) (omega arith)
 
 -- its time; past the end 0
-pub time-is : (rs : List Record) → Fit rs → (at : ℕ) → getAt (rowOctets rs) (16 * at + 8) 8 ≡ getD rs at unusedRecord .time
+pub time-is : (rs : List Record) → Fit rs → (at : ℕ) → getAt (rowOctets rs) (16 * at + 8) 8 ≡ timeAt rs at
 time-is rs f at = go (ltb at (length rs)) refl
   where
     s : List ℕ
@@ -84,7 +77,7 @@ time-is rs f at = go (ltb at (length rs)) refl
         let l = ltb-true at (length rs) e in
         let z : 0 + 16 * at + 8 ≡ 16 * at + 8 = omega arith in
         rw (le-leb (16 * at + 8 + 8) (length (rowOctets rs)) (omega (arith, length-row rs)))
-        (sym (ap (λ (l : List Record). getD l at unusedRecord .time) (sym (read-back rs f)) ∙ record-at (sizeOf (rowOctets rs)) (rowOctets rs) 0 at (rw (size-is rs) l) ∙ ap (λ (k : ℕ). num (rowOctets rs) k 8) z))
+        (sym (ap (λ (l : List Record). timeAt l at) (sym (read-back rs f)) ∙ record-at (sizeOf (rowOctets rs)) (rowOctets rs) 0 at (rw (size-is rs) l) ∙ ap (λ (k : ℕ). num (rowOctets rs) k 8) z))
     go false e =
         let l = ltb-false at (length rs) e in
         rw (lt-leb (16 * at + 8 + 8) (length (rowOctets rs)) (omega (arith, length-row rs)), List·getD-eq-default rs unusedRecord {n = at} l)

@@ -14,7 +14,7 @@ use prog.Wp.{Heap, Env, Calls, Loops}
 use ghost.Atoms.{Atoms}
 use sound.WpLaws.{FmC}
 use contract.Monad.{Fun}
-use types.Kit.{Given, Item, ‵, raw, _⊛_, Seq, Post, runs, lands, _$_, !, use1, use2, move, split, drop}
+use types.Kit.{Given, Item, ‵, raw, _⊛_, Seq, Post, runs, lands, _$_, use1, use2, move, split, drop}
 use types.Run.{Opds}
 use denote.Plain.{uint-makes, uint-tells}
 use denote.Builtin.{usize}
@@ -24,9 +24,8 @@ use denote.Triple.Statement.{Contract, Triple}
 use Rattle.header.specs.declared.ServerCookie.{ServerCookie}
 use Rattle.header.proofs.ServerCookie as Ck
 use Rattle.header.proofs.ServerCookie.Laws as Ck′
-use Rattle.records.specs.Records.{recordsIn}
+use Rattle.records.specs.Records.{recordsIn, placeFrom}
 use Rattle.records.specs.declared.Record.{Record as Slot}
-use Rattle.records.proofs.Slots.{placeFrom}
 use Rattle.records.proofs.Walk.{at-list, vals, Sees, IsCookie, Asks, calls-ensured, slice-pre}
 use Rattle.records.proofs.find as find
 use Rattle.records.proofs.find.Symbol.{name as #find}

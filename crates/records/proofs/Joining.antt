@@ -7,20 +7,19 @@ use native.Mathlib.Nat.{zero-add}
 use native.Mathlib.Omega.{arith}
 use borrow.Author.Tests.{ltb-true}
 use lib.Dec.{eqb, ltb}
-use lib.ListN.{length, getD, set}
+use lib.ListN.{length, set}
 use lib.Seq.{set-out}
 use Rattle.store_rules.specs.Row.{Record, held}
 use Rattle.store_rules.specs.Place.{indexOf}
 use Rattle.octets.proofs.Tests.{or-none}
 use Rattle.store_rules.proofs.Rows.{held-index, index-past}
-use Rattle.records.specs.Records.{unusedRecord, leaveRecords, withCookieAtFree, joinRecords}
+use Rattle.records.specs.Records.{unusedRecord, timeAt, leaveRecords, withCookieAtFree, joinRecords, placeFrom}
 use Rattle.records.specs.Value.{joinPlaceBy, joinPlaceFor}
-use Rattle.records.proofs.Slots.{placeFrom}
 use Rattle.records.proofs.Moves.{length-leave, leave-past}
 
 -- the record at a place with a cookie
 abbrev pub withCookie : List Record → ℕ → ℕ → List Record
-withCookie rs i c = set rs i (record { cookie = c; time = getD rs i unusedRecord .time })
+withCookie rs i c = set rs i (record { cookie = c; time = timeAt rs i })
 
 -- the first record with cookie 0 is the one that gets the cookie
 with-cookie-set : (c : ℕ) (rs : List Record) → withCookieAtFree c rs ≡ withCookie rs (indexOf 0 rs) c

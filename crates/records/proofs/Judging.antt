@@ -10,11 +10,11 @@ use lib.ListN.{length, getD, drop, length-drop, drop-of-length-le}
 use Rattle.store_rules.specs.Row.{Record, held, allUnused, soundRecords}
 use Rattle.store_rules.specs.Place.{indexOf}
 use Rattle.store_rules.proofs.Rows.{held-index}
-use Rattle.records.specs.Records.{recordOf, recordsIn, wrongCount, wrongRecords}
+use Rattle.records.specs.Records.{recordOf, recordsIn, wrongCount, wrongRecords, placeFrom}
 use Rattle.records.specs.Value.{seenAfter}
 use Rattle.records.specs.declared.Record.{Record as Slot}
 use Rattle.records.specs.declared.value.Seen.{Seen}
-use Rattle.records.proofs.Slots.{none, length-in, get-in, next-in, placeFrom}
+use Rattle.records.proofs.Slots.{none, length-in, get-in, next-in}
 
 -- what is left to say of the records that are not seen yet
 abbrev pub verdict : Seen → List Record → Bool

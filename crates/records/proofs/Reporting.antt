@@ -8,16 +8,17 @@ use borrow.Author.Tests.{eqb-true, eqb-false, lt-ltb, le-ltb}
 use lib.Dec.{eqb}
 use lib.ListN.{length, getD, set}
 use lib.Seq.{getD-at, set-at, set-getD}
-use Rattle.store_rules.specs.Row.{Record, held, timeOf, reported, usedOf}
+use Rattle.store_rules.specs.Row.{Record, held, timeOf, withTime, usedOf}
 use Rattle.store_rules.specs.Place.{indexOf}
 use Rattle.octets.proofs.Tests.{or-none}
 use Rattle.store_rules.proofs.Rows.{Parted, part-row, held-index}
-use Rattle.records.specs.Records.{recordOf, recordsIn, unusedRecord, wrongRecords, reportRecords}
+use Rattle.store_rules.proofs.Stores.{held-used}
+use Rattle.records.specs.Records.{recordOf, recordsIn, unusedRecord, wrongRecords, reportRecords, placeFrom}
 use Rattle.records.specs.Value.{reportedOne, absentRefusal}
 use Rattle.records.specs.declared.Record.{Record as Slot}
 use Rattle.records.specs.declared.value.Report.{Report}
-use Rattle.records.proofs.Slots.{none, length-in, get-in, set-in, placeFrom}
-use Rattle.records.proofs.Sounds.{Sound, held-row, absent-row, time-row, right-sound}
+use Rattle.records.proofs.Slots.{none, length-in, get-in, set-in}
+use Rattle.records.proofs.Sounds.{Sound, held-row, time-row, right-sound}
 
 -- ---- a report, by its tests
 
@@ -38,7 +39,7 @@ module _ (rs : List Record) (c t : ℕ) where
     unfolding reportRecords
     report-again e z = rw (h, e, z)
 
-    report-zero : held c (usedOf rs) ≡ true → eqb (timeOf c (usedOf rs)) 0 ≡ true → (0, reported c t rs) ≡ reportRecords rs c t
+    report-zero : held c (usedOf rs) ≡ true → eqb (timeOf c (usedOf rs)) 0 ≡ true → (0, withTime c t rs) ≡ reportRecords rs c t
     unfolding reportRecords
     report-zero e z = rw (h, e, z)
 
@@ -51,7 +52,7 @@ report-absent rs c t p w ew ep l = go (wrongRecords rs || eqb t 0) refl
 
     go : (b : Bool) → wrongRecords rs || eqb t 0 ≡ b → (absentRefusal w t, rs) ≡ reportRecords rs c t
     go true h = rw (ew, h) (report-six rs c t h)
-    go false h = rw (ew, h) (report-twelve rs c t h (absent-row c rs (right-sound rs (or-none (wrongRecords rs) (eqb t 0) h .0)) not-held))
+    go false h = rw (ew, h) (report-twelve rs c t h (held-used c rs not-held))
 
 -- the record at p has it
 module _ (rs : List Slot) (c t p : ℕ) (ep : p ≡ placeFrom (recordsIn rs) c 0) (l : p < length rs) where
@@ -84,7 +85,7 @@ module _ (rs : List Slot) (c t p : ℕ) (ep : p ≡ placeFrom (recordsIn rs) c 0
   timed : Slot
   timed = record { cookie = getD rs p none .cookie; time = t }
 
-  changed : recordsIn (set rs p timed) ≡ reported c t (recordsIn rs)
+  changed : recordsIn (set rs p timed) ≡ withTime c t (recordsIn rs)
   unfolding timed
   changed =
       let r : Record = record { cookie = c; time = t } in

@@ -11,7 +11,7 @@ use lib.Dec.{eqb, ltb}
 use lib.ListN.{length, getD, take, drop, replicate}
 use lib.Seq.{split-at, drop-append-le, length-take-le}
 use Rattle.octets.specs.Number.{putAt}
-use Rattle.store_rules.specs.Row.{Record, held, timeOf, reported, usedOf, rowOctets, storeOctets, recordsFrom, sizeOf, cleared, reporting}
+use Rattle.store_rules.specs.Row.{Record, held, timeOf, withTime, usedOf, rowOctets, storeOctets, recordsFrom, sizeOf, cleared, reporting}
 use Rattle.store_rules.specs.Place.{indexOf, placeOf, removed, joinedOctets}
 use Rattle.store_rules.proofs.Rows.{unusedRow, held-index}
 use Rattle.store_rules.proofs.Written.{length-row, store-row}
@@ -41,13 +41,13 @@ clear-same rs = rw (count-is rs, size-is rs) (go (wrongCount (length rs)))
 -- ---- a report
 
 -- a report changes the first of two rows where that holds the cookie
-reported-append : (c t : ℕ) (a b : List Record) → held c a ≡ true → reported c t (a ++ b) ≡ reported c t a ++ b
-unfolding held reported
+reported-append : (c t : ℕ) (a b : List Record) → held c a ≡ true → withTime c t (a ++ b) ≡ withTime c t a ++ b
+unfolding held withTime
 reported-append c t [] b h = absurd (true≢false (sym h))
 reported-append c t (r ∷ a) b h = go (eqb (r .cookie) c) (reported-append c t a b) h
   where
-    go : (x : Bool) → (held c a ≡ true → reported c t (a ++ b) ≡ reported c t a ++ b) → x || held c a ≡ true
-        → cond x (record { cookie = c; time = t } ∷ (a ++ b)) (r ∷ reported c t (a ++ b)) ≡ cond x (record { cookie = c; time = t } ∷ a) (r ∷ reported c t a) ++ b
+    go : (x : Bool) → (held c a ≡ true → withTime c t (a ++ b) ≡ withTime c t a ++ b) → x || held c a ≡ true
+        → cond x (record { cookie = c; time = t } ∷ (a ++ b)) (r ∷ withTime c t (a ++ b)) ≡ cond x (record { cookie = c; time = t } ∷ a) (r ∷ withTime c t a) ++ b
     go true f e = refl
     go false f e = ap (λ (l : List Record). r ∷ l) (f e)
 
@@ -111,16 +111,16 @@ join-same (r ∷ rs) f c = join-some (r ∷ rs) f c (omega arith)
 
 module _ (rs : List Record) (f : Fit rs) (c t : ℕ) where
   -- where nothing refuses it, the row's octets are those of the records
-  pub report-octets : wrongRecords rs ≡ false → held c (usedOf rs) ≡ true → storeOctets (sizeOf (rowOctets rs)) (reported c t (usedOf rs)) ≡ rowOctets (reported c t rs)
+  pub report-octets : wrongRecords rs ≡ false → held c (usedOf rs) ≡ true → storeOctets (sizeOf (rowOctets rs)) (withTime c t (usedOf rs)) ≡ rowOctets (withTime c t rs)
   report-octets h k =
       let row = usedOf rs in
       let n = length rs in
       let w = store-read (rowOctets rs) (row-octets rs) (wrong-is rs f ∙ h) in
       let parts : rs ≡ row ++ unusedRow (n - length row) = sym (read-back rs f) ∙ w .records ∙ rw (row-is rs f, size-is rs) in
       rw (size-is rs)
-      (store-row n (reported c t row)
-      ∙ ap (λ (m : ℕ). rowOctets (reported c t row ++ unusedRow (n - m))) (length-reported c t row)
-      ∙ ap rowOctets (sym (reported-append c t row (unusedRow (n - length row)) k) ∙ ap (reported c t) (sym parts)))
+      (store-row n (withTime c t row)
+      ∙ ap (λ (m : ℕ). rowOctets (withTime c t row ++ unusedRow (n - m))) (length-reported c t row)
+      ∙ ap rowOctets (sym (reported-append c t row (unusedRow (n - length row)) k) ∙ ap (withTime c t) (sym parts)))
 
   -- what is not refused
   pub unrefused : reportRefusal rs c t ≡ 0 → (wrongRecords rs ≡ false) × (held c (usedOf rs) ≡ true)
@@ -137,6 +137,6 @@ module _ (rs : List Record) (f : Fit rs) (c t : ℕ) where
   report-same = rw (wrong-is rs f, row-is rs f) (go (eqb (reportRefusal rs c t) 0) refl)
     where
       go : (b : Bool) → eqb (reportRefusal rs c t) 0 ≡ b
-          → cond b (0, storeOctets (sizeOf (rowOctets rs)) (reported c t (usedOf rs))) (reportRefusal rs c t, rowOctets rs) ≡ spelled (cond b (0, reported c t rs) (reportRefusal rs c t, rs))
+          → cond b (0, storeOctets (sizeOf (rowOctets rs)) (withTime c t (usedOf rs))) (reportRefusal rs c t, rowOctets rs) ≡ spelled (cond b (0, withTime c t rs) (reportRefusal rs c t, rs))
       go true q = let p = unrefused (eqb-true (reportRefusal rs c t) 0 q) in ap (λ (l : List ℕ). (0, l)) (report-octets (p .0) (p .1))
       go false q = refl

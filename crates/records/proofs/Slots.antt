@@ -11,14 +11,14 @@ use lib.ListN.{length, getD, set, drop, length-map, List·getD-map, drop-of-leng
 use lib.Seq.{drop-cons}
 use Rattle.store_rules.specs.Row.{Record}
 use Rattle.store_rules.specs.Place.{indexOf}
-use Rattle.records.specs.Records.{recordOf, recordsIn, unusedRecord}
+use Rattle.records.specs.Records.{recordOf, recordsIn, unusedRecord, OneToOne, placeFrom}
 use Rattle.records.specs.declared.Record.{Record as Slot}
 
 -- an unused record of a slice
 abbrev pub none : Slot
 none = record { cookie = record { 0 = 0 }; time = 0 }
 
--- ---- the conversion is one to one, so that what is said of the records fixes the slice
+-- ---- the conversion is one to one
 
 slotOf : Record → Slot
 slotOf r = record { cookie = record { 0 = r .cookie }; time = r .time }
@@ -28,7 +28,7 @@ unfolding slotOf
 there-and-back [] = refl
 there-and-back (r ∷ rs) = ap (λ (l : List Slot). r ∷ l) (there-and-back rs)
 
-pub records-one : (rs ss : List Slot) → recordsIn rs ≡ recordsIn ss → rs ≡ ss
+pub records-one : OneToOne
 records-one rs ss e = sym (there-and-back rs) ∙ ap (map slotOf) e ∙ there-and-back ss
 
 -- ---- one record
@@ -49,10 +49,6 @@ pub next-in : (rs : List Record) (i : ℕ) → i < length rs → drop i rs ≡ g
 next-in rs i h = rw (add-one i) (drop-cons rs i unusedRecord h)
 
 -- ---- the search for a cookie
-
--- where a cookie stands, looked for from a place on
-abbrev pub placeFrom : List Record → ℕ → ℕ → ℕ
-placeFrom rs c i = i + indexOf c (drop i rs)
 
 module _ (rs : List Slot) (c i : ℕ) where
   -- the record at the place has the cookie

@@ -6,15 +6,15 @@ use Prim.Native.Nat.{ℕ, suc, _+_}
 use native.Mathlib.Omega.{arith}
 use borrow.Author.Tests.{eqb-true, ne-eqb, not-true, not-false}
 use lib.Dec.{eqb}
-use lib.ListN.{length, getD}
+use lib.ListN.{length}
 use Rattle.store_rules.specs.Row.{Record, held, timeOf, unused, allUnused, usedOf, soundRecords}
 use Rattle.store_rules.specs.Place.{indexOf}
 use Rattle.octets.proofs.Tests.{or-none}
 use Rattle.store_rules.proofs.Rows.{held-append, time-append}
-use Rattle.records.specs.Records.{unusedRecord, wrongCount, wrongRecords}
+use Rattle.records.specs.Records.{timeAt, wrongCount, wrongRecords}
 
 -- an unused record has cookie 0 and time 0
-pub unused-zero : (r : Record) → unused r ≡ true → (r .cookie ≡ 0) × (r .time ≡ 0)
+unused-zero : (r : Record) → unused r ≡ true → (r .cookie ≡ 0) × (r .time ≡ 0)
 unused-zero r h = let p = and-eq-true-iff (eqb (r .cookie) 0) (eqb (r .time) 0) .0 h in (eqb-true (r .cookie) 0 (p .0), eqb-true (r .time) 0 (p .1))
 
 -- unused records hold no cookie but 0
@@ -69,10 +69,6 @@ sound-parts (r ∷ rs) h = sound-more r rs (sound-parts rs) (unused r) refl h
 pub held-row : (c : ℕ) (rs : List Record) → Sound rs → (c ≡ 0 → ⊥) → held c (usedOf rs) ≡ held c rs
 held-row c rs w z = sym (ap (held c) (w .parts) ∙ held-append c (usedOf rs) (w .rest) ∙ rw (unused-held c (w .rest) z (w .free)) (or-false (held c (usedOf rs))))
 
--- what none of them has is not in the row
-pub absent-row : (c : ℕ) (rs : List Record) → Sound rs → held c rs ≡ false → held c (usedOf rs) ≡ false
-absent-row c rs w h = or-none (held c (usedOf rs)) (held c (w .rest)) (sym (ap (held c) (w .parts) ∙ held-append c (usedOf rs) (w .rest)) ∙ h) .0
-
 pub time-row : (c : ℕ) (rs : List Record) → Sound rs → timeOf c (usedOf rs) ≡ timeOf c rs
 time-row c rs w = sym (ap (timeOf c) (w .parts) ∙ time-append c (usedOf rs) (w .rest) (unused-time c (w .rest) (w .free)))
 
@@ -82,11 +78,11 @@ unfolding wrongRecords
 right-sound rs h = sound-parts rs (not-false (soundRecords rs) (or-none (wrongCount (length rs)) (not (soundRecords rs)) h .1))
 
 -- the time of a cookie stands where the cookie does
-pub time-at : (c : ℕ) (rs : List Record) → timeOf c rs ≡ getD rs (indexOf c rs) unusedRecord .time
+pub time-at : (c : ℕ) (rs : List Record) → timeOf c rs ≡ timeAt rs (indexOf c rs)
 unfolding timeOf indexOf
 time-at c [] = refl
 time-at c (r ∷ rs) = go (eqb (r .cookie) c) (time-at c rs)
   where
-    go : (b : Bool) → timeOf c rs ≡ getD rs (indexOf c rs) unusedRecord .time → cond b (r .time) (timeOf c rs) ≡ getD (r ∷ rs) (cond b 0 (1 + indexOf c rs)) unusedRecord .time
+    go : (b : Bool) → timeOf c rs ≡ timeAt rs (indexOf c rs) → cond b (r .time) (timeOf c rs) ≡ timeAt (r ∷ rs) (cond b 0 (1 + indexOf c rs))
     go true e = refl
     go false e = let o : 1 + indexOf c rs ≡ suc (indexOf c rs) = omega arith in rw o e

@@ -4,10 +4,7 @@ mod value;
 use header::ServerCookie;
 use value::Seen;
 ghost use mathlib.Core.Path.{_≡_};
-ghost use Prim.Native.Nat.{_+_};
-ghost use lib.ListN.{drop, getD};
-ghost use Rattle.store_rules.specs.Place.{indexOf};
-ghost use Rattle.records.specs.Records.{recordsIn, unusedRecord, wrongRecords, clearRecords, reportRecords, leaveRecords, joinRecords};
+ghost use Rattle.records.specs.Records.{recordsIn, placeFrom, timeAt, wrongRecords, clearRecords, reportRecords, leaveRecords, joinRecords};
 
 // An unused record has cookie 0 and time 0; a used one has time 0 until it is reported.
 pub struct Record {
@@ -23,7 +20,7 @@ pub const UNUSED: Record = Record {
 
 // Where the first record with this cookie stands, from a place on; the end where there is none.
 pub fn find(records: &[Record], from: usize, cookie: ServerCookie) -> usize
-    ensures { λ r. ⌜ r ≡ from + indexOf (cookie .0) (drop from (recordsIn (now (records .entry)))) ⌝ }
+    ensures { λ r. ⌜ r ≡ placeFrom (recordsIn (now (records .entry))) (cookie .0) from ⌝ }
 {
     let mut at = from;
     while at < records.len() {
@@ -37,7 +34,7 @@ pub fn find(records: &[Record], from: usize, cookie: ServerCookie) -> usize
 
 // The transmit time of the record at a place; 0 past the end.
 pub fn time(records: &[Record], at: usize) -> u64
-    ensures { λ r. ⌜ r ≡ getD (recordsIn (now (records .entry))) at unusedRecord .time ⌝ }
+    ensures { λ r. ⌜ r ≡ timeAt (recordsIn (now (records .entry))) at ⌝ }
 {
     if at < records.len() {
         return records[at].time;

@@ -11,8 +11,8 @@ use Rattle.responder_rules.specs.declared.Answered.{Answered}
 use Rattle.responder_rules.proofs.Accepting.{first-pass}
 use Rattle.records_answer.specs.Step.{Stepped, stepped}
 use Rattle.records_answer.specs.Answer.{checkedRequest, stepOf, Outcome, outcome, answerRecords}
-use Rattle.records_answer.specs.Sent.{Ready, sentOctets, sentBy}
-use Rattle.records_answer.specs.declared.Step.{Step}
+use Rattle.records_answer.specs.Sent.{Ready, sentOctets, answerSent}
+use Rattle.records_answer.specs.declared.AnswerStep.{AnswerStep}
 use Rattle.records_answer.proofs.Ways.{Way, goes, stops, done, way, answer-done, answer-stopped}
 
 -- the same with other records
@@ -24,7 +24,7 @@ octets-sent : (g : Given) (rs : List Record) → sentOctets g (savedTime (asking
 unfolding answerOctets
 octets-sent g rs = refl
 
-module _ (g : Given) (rs : List Record) (out : List ℕ) (step : Step) (l : List Record) (e : stepped step l ≡ stepOf g rs out) where
+module _ (g : Given) (rs : List Record) (out : List ℕ) (step : AnswerStep) (l : List Record) (e : stepped step l ≡ stepOf g rs out) where
   number : step .refusal ≡ stepOf g rs out .refusal
   number = ap (λ (s : Stepped). s .refusal) e
 
@@ -35,10 +35,10 @@ module _ (g : Given) (rs : List Record) (out : List ℕ) (step : Step) (l : List
       go (goes n s q) = record { header = ap (λ (m : ℕ). reading m (asking g)) n; accepted = first-pass g n .accepted; room = s }
       go (stops n q) = absurd (n (sym number ∙ z))
 
-  pub answered : (r : Answered) (o : List ℕ) → outcome r o [] ≡ sentBy g step out → outcome r o l ≡ answerRecords g rs out
+  pub answered : (r : Answered) (o : List ℕ) → outcome r o [] ≡ answerSent g step out → outcome r o l ≡ answerRecords g rs out
   answered r o w = ap (leaving l) w ∙ go (way g rs out)
     where
-      go : Way g rs (firstRefusal g) (shortOutput g out) (stepOf g rs out) → leaving l (sentBy g step out) ≡ answerRecords g rs out
+      go : Way g rs (firstRefusal g) (shortOutput g out) (stepOf g rs out) → leaving l (answerSent g step out) ≡ answerRecords g rs out
       go (goes n s q) =
           let d = e ∙ q in
           let z : step .refusal ≡ 0 = ap (λ (s : Stepped). s .refusal) d in

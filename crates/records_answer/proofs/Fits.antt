@@ -1,21 +1,22 @@
 -- Numbers of 64 bits stay such numbers, whatever is done with the records. Assumes nothing.
 use mathlib.Core.Path.{_≡_, refl}
-use mathlib.Core.Bool.{Bool, true, false, cond}
+use mathlib.Core.Bool.{Bool, cond}
 use mathlib.Core.List.{List, [], _∷_, _++_}
 use Prim.Native.Nat.{ℕ, zero, suc, _+_, _-_, _<_, _^_}
 use native.Mathlib.Omega.{arith}
 use borrow.Author.Tests.{eqb-true}
 use lib.Dec.{eqb, ltb}
 use lib.ListN.{length, take, drop, replicate}
+use Rattle.octets.proofs.Tests.{by-test}
 use Rattle.header.specs.declared.Header.{Header}
 use Rattle.header.specs.declared.Reading.{Reading}
 use Rattle.header.specs.declared.Reading.the-variants.{Fields, Refused}
-use Rattle.store_rules.specs.Row.{Record, held, reported, without, joined, unused, usedOf}
+use Rattle.store_rules.specs.Row.{Record, held, withTime, without, unused, usedOf}
 use Rattle.records.specs.Records.{unusedRecord, Fit, wrongCount, wrongRecords, clearRecords, reportRefusal, reportRecords, leaveRecords, withCookieAtFree, joinRecords}
 use Rattle.responder_rules.specs.Answer.{Given, wantsInterleaved, savedTime, rowAfter, wrongFresh, shortOutput, refusedAnswer}
-use Rattle.records_answer.specs.Step.{rowInRecords, refuse, answerStep}
+use Rattle.records_answer.specs.Step.{Stepped, answerStep}
 use Rattle.records_answer.specs.Answer.{Outcome, checkedRequest, stepOf, answerRecords}
-use Rattle.records_answer.specs.Same.{Call, clear, wrong, find, time, report, leave, join, answer, onRecords, Typed}
+use Rattle.records_answer.specs.Same.{Call, clear, wrong, find, time, report, leave, join, answer, callOnRecords, Typed}
 
 fit-append : (a b : List Record) → Fit a → Fit b → Fit (a ++ b)
 fit-append [] b f g = g
@@ -35,30 +36,22 @@ fit-unused : (n : ℕ) → Fit (replicate n unusedRecord)
 fit-unused zero = tt
 fit-unused (suc n) = (omega arith, omega arith, fit-unused n)
 
+-- of what a call leaves, beside its refusal
+abbrev FitLeft : ℕ × List Record → Type 0
+FitLeft w = Fit (w .1)
+
 fit-clear : (rs : List Record) → Fit rs → Fit (clearRecords rs .1)
 unfolding clearRecords
-fit-clear rs f = go (wrongCount (length rs))
-  where
-    go : (b : Bool) → Fit (cond {A = ℕ × List Record} b (6, rs) (0, replicate (length rs) unusedRecord) .1)
-    go true = f
-    go false = fit-unused (length rs)
+fit-clear rs f = by-test FitLeft (wrongCount (length rs)) (λ e. f) (λ e. fit-unused (length rs))
 
-fit-reported : (c t : ℕ) (rs : List Record) → t < 2 ^ 64 → Fit rs → Fit (reported c t rs)
-unfolding reported
+fit-reported : (c t : ℕ) (rs : List Record) → t < 2 ^ 64 → Fit rs → Fit (withTime c t rs)
+unfolding withTime
 fit-reported c t [] h f = tt
-fit-reported c t (r ∷ rs) h f = go (eqb (r .cookie) c) refl (fit-reported c t rs h (f .2))
-  where
-    go : (b : Bool) → eqb (r .cookie) c ≡ b → Fit (reported c t rs) → Fit (cond b (record { cookie = c; time = t } ∷ rs) (r ∷ reported c t rs))
-    go true q g = (rw (eqb-true (r .cookie) c q) at (f .0), h, f .2)
-    go false q g = (f .0, f .1, g)
+fit-reported c t (r ∷ rs) h f = by-test Fit (eqb (r .cookie) c) (λ e. (rw (eqb-true (r .cookie) c e) at (f .0), h, f .2)) (λ e. (f .0, f .1, fit-reported c t rs h (f .2)))
 
 pub fit-report : (rs : List Record) (c t : ℕ) → t < 2 ^ 64 → Fit rs → Fit (reportRecords rs c t .1)
 unfolding reportRecords
-fit-report rs c t h f = go (eqb (reportRefusal rs c t) 0)
-  where
-    go : (b : Bool) → Fit (cond {A = ℕ × List Record} b (0, reported c t rs) (reportRefusal rs c t, rs) .1)
-    go true = fit-reported c t rs h f
-    go false = f
+fit-report rs c t h f = by-test FitLeft (eqb (reportRefusal rs c t) 0) (λ e. fit-reported c t rs h f) (λ e. f)
 
 pub fit-leave : (rs : List Record) (at : ℕ) → Fit rs → Fit (leaveRecords rs at)
 unfolding leaveRecords
@@ -67,75 +60,47 @@ fit-leave rs at f = fit-append (take at rs) (drop (at + 1) (rs ++ (unusedRecord 
 fit-with-cookie : (c : ℕ) (rs : List Record) → c < 2 ^ 64 → Fit rs → Fit (withCookieAtFree c rs)
 unfolding withCookieAtFree
 fit-with-cookie c [] h f = tt
-fit-with-cookie c (r ∷ rs) h f = go (eqb (r .cookie) 0) (fit-with-cookie c rs h (f .2))
-  where
-    go : (b : Bool) → Fit (withCookieAtFree c rs) → Fit (cond b (record { cookie = c; time = r .time } ∷ rs) (r ∷ withCookieAtFree c rs))
-    go true g = (h, f .1, f .2)
-    go false g = (f .0, f .1, g)
+fit-with-cookie c (r ∷ rs) h f = by-test Fit (eqb (r .cookie) 0) (λ e. (h, f .1, f .2)) (λ e. (f .0, f .1, fit-with-cookie c rs h (f .2)))
 
 pub fit-join : (rs : List Record) (c : ℕ) → c < 2 ^ 64 → Fit rs → Fit (joinRecords rs c)
 unfolding joinRecords
-fit-join rs c h f = fit-with-cookie c (cond (held 0 rs) rs (leaveRecords rs 0)) h (go (held 0 rs))
-  where
-    go : (b : Bool) → Fit (cond b rs (leaveRecords rs 0))
-    go true = f
-    go false = fit-leave rs 0 f
+fit-join rs c h f = fit-with-cookie c (cond (held 0 rs) rs (leaveRecords rs 0)) h (by-test Fit (held 0 rs) (λ e. f) (λ e. fit-leave rs 0 f))
 
 fit-used : (rs : List Record) → Fit rs → Fit (usedOf rs)
 unfolding usedOf
 fit-used [] f = tt
-fit-used (r ∷ rs) f = go (unused r) (fit-used rs (f .2))
-  where
-    go : (b : Bool) → Fit (usedOf rs) → Fit (cond b [] (r ∷ usedOf rs))
-    go true g = tt
-    go false g = (f .0, f .1, g)
+fit-used (r ∷ rs) f = by-test Fit (unused r) (λ e. tt) (λ e. (f .0, f .1, fit-used rs (f .2)))
 
 fit-without : (c : ℕ) (rs : List Record) → Fit rs → Fit (without c rs)
 unfolding without
 fit-without c [] f = tt
-fit-without c (r ∷ rs) f = go (eqb (r .cookie) c) (fit-without c rs (f .2))
-  where
-    go : (b : Bool) → Fit (without c rs) → Fit (cond b rs (r ∷ without c rs))
-    go true g = f .2
-    go false g = (f .0, f .1, g)
-
--- one of two
-fit-either : (b : Bool) (rs ss : List Record) → Fit rs → Fit ss → Fit (cond b rs ss)
-fit-either true rs ss f g = f
-fit-either false rs ss f g = g
+fit-without c (r ∷ rs) f = by-test Fit (eqb (r .cookie) c) (λ e. f .2) (λ e. (f .0, f .1, fit-without c rs (f .2)))
 
 fit-after : (asked : Header) (freshCookie n : ℕ) (row : List Record) → freshCookie < 2 ^ 64 → Fit row → Fit (rowAfter asked freshCookie n row)
 fit-after asked freshCookie n row h f =
     let c = asked .«server_cookie» .0 in
     let left = cond (eqb (savedTime asked row) 0) row (without c row) in
-    let g : Fit left = fit-either (eqb (savedTime asked row) 0) row (without c row) f (fit-without c row f) in
+    let g : Fit left = by-test Fit (eqb (savedTime asked row) 0) (λ e. f) (λ e. fit-without c row f) in
     let rest = cond (ltb (length left) n) left (drop 1 left) in
-    fit-either (wantsInterleaved asked) (joined n freshCookie left) row
-    (fit-append rest (record { cookie = freshCookie; time = 0 } ∷ []) (fit-either (ltb (length left) n) left (drop 1 left) g (fit-drop 1 left g)) (h, omega arith, tt))
-    f
+    by-test Fit (wantsInterleaved asked)
+    (λ e. fit-append rest (record { cookie = freshCookie; time = 0 } ∷ []) (by-test Fit (ltb (length left) n) (λ q. g) (λ q. fit-drop 1 left g)) (h, omega arith, tt))
+    (λ e. f)
 
 fit-answer : (request : Reading) (short : Bool) (freshCookie : ℕ) (rs : List Record) → freshCookie < 2 ^ 64 → Fit rs → Fit (answerStep request short freshCookie rs .records)
 unfolding answerStep
 fit-answer (Refused n) short freshCookie rs h f = f
-fit-answer (Fields asked) short freshCookie rs h f = let n = refusedAnswer (wrongRecords rs) 0 (wrongFresh asked freshCookie (usedOf rs)) short in go n (eqb n 0)
-  where
-    row : List Record
-    row = rowAfter asked freshCookie (length rs) (usedOf rs)
-
-    go : (n : ℕ) (b : Bool) → Fit (cond b (record { refusal = 0; saved = savedTime asked (usedOf rs); records = rowInRecords (length rs) row }) (refuse n rs) .records)
-    go n true = fit-append row (replicate (length rs - length row) unusedRecord) (fit-after asked freshCookie (length rs) (usedOf rs) h (fit-used rs f)) (fit-unused (length rs - length row))
-    go n false = f
+fit-answer (Fields asked) short freshCookie rs h f =
+    let row = rowAfter asked freshCookie (length rs) (usedOf rs) in
+    by-test (λ (s : Stepped). Fit (s .records)) (eqb (refusedAnswer (wrongRecords rs) 0 (wrongFresh asked freshCookie (usedOf rs)) short) 0)
+    (λ e. fit-append row (replicate (length rs - length row) unusedRecord) (fit-after asked freshCookie (length rs) (usedOf rs) h (fit-used rs f)) (fit-unused (length rs - length row)))
+    (λ e. f)
 
 -- an answer leaves the records of its step
 pub answer-records : (g : Given) (rs : List Record) (out : List ℕ) → answerRecords g rs out .records ≡ stepOf g rs out .records
 unfolding answerRecords
-answer-records g rs out = go (eqb (stepOf g rs out .refusal) 0) _ refl _ refl
-  where
-    go : (b : Bool) (w : Outcome) → w .records ≡ stepOf g rs out .records → (v : Outcome) → v .records ≡ stepOf g rs out .records → cond {A = Outcome} b w v .records ≡ stepOf g rs out .records
-    go true w e v q = e
-    go false w e v q = q
+answer-records g rs out = by-test (λ (w : Outcome). w .records ≡ stepOf g rs out .records) (eqb (stepOf g rs out .refusal) 0) (λ e. refl) (λ e. refl)
 
-pub fit-step : (c : Call) (rs : List Record) → Typed c → Fit rs → Fit (onRecords c rs .1)
+pub fit-step : (c : Call) (rs : List Record) → Typed c → Fit rs → Fit (callOnRecords c rs .1)
 fit-step clear rs t f = fit-clear rs f
 fit-step wrong rs t f = f
 fit-step (find c) rs t f = f

@@ -1,6 +1,6 @@
 -- A row and then unused records: what a record that leaves and a cookie that joins make of them. Assumes nothing.
 use mathlib.Core.Path.{_≡_, refl, sym, ap, _∙_}
-use mathlib.Core.Bool.{Bool, true, false, cond, and-eq-true-iff}
+use mathlib.Core.Bool.{Bool, true, false, cond}
 use mathlib.Core.List.{List, [], _∷_, _++_, append-assoc, append-nil}
 use Prim.Native.Nat.{ℕ, suc, _+_, _-_, _≤_}
 use native.Mathlib.Omega.{arith}
@@ -8,24 +8,16 @@ use borrow.Author.Tests.{ltb-true, ltb-false}
 use lib.Dec.{eqb, ltb}
 use lib.ListN.{length, drop, replicate, length-append, replicate-append-replicate}
 use lib.Seq.{take-at, drop-at}
-use Rattle.store_rules.specs.Row.{Record, held, without, joined, unused, allUnused, usedOf}
+use Rattle.store_rules.specs.Row.{Record, held, without, joined, usedOf}
 use Rattle.store_rules.specs.Place.{indexOf}
 use Rattle.octets.proofs.Tests.{or-none}
 use Rattle.store_rules.proofs.Rows.{Parted, part-row, held-append, index-append}
+use Rattle.store_rules.proofs.Stores.{all-unused-are}
 use Rattle.records.specs.Records.{unusedRecord, leaveRecords, withCookieAtFree, joinRecords}
-use Rattle.records.proofs.Sounds.{unused-zero, Sound}
+use Rattle.records.proofs.Sounds.{Sound}
 use Rattle.records_answer.specs.Step.{rowInRecords}
 
 -- ---- records that are not wrong are so
-
-all-unused : (rs : List Record) → allUnused rs ≡ true → rs ≡ replicate (length rs) unusedRecord
-unfolding allUnused
-all-unused [] h = refl
-all-unused (r ∷ rs) h =
-    let p = and-eq-true-iff (unused r) (allUnused rs) .0 h in
-    let z = unused-zero r (p .0) in
-    let e = all-unused rs (p .1) in
-    λ i. record { cookie = z .0 i; time = z .1 i } ∷ e i
 
 pub row-most : (rs : List Record) → Sound rs → length (usedOf rs) ≤ length rs
 row-most rs w = let l : length rs ≡ length (usedOf rs) + length (w .rest) = ap length (w .parts) ∙ length-append (usedOf rs) (w .rest) in omega arith
@@ -34,7 +26,7 @@ pub right-row : (rs : List Record) → Sound rs → rs ≡ rowInRecords (length 
 right-row rs w =
     let l : length rs ≡ length (usedOf rs) + length (w .rest) = ap length (w .parts) ∙ length-append (usedOf rs) (w .rest) in
     let k : length (w .rest) ≡ length rs - length (usedOf rs) = omega arith in
-    w .parts ∙ ap (λ (l : List Record). usedOf rs ++ l) (all-unused (w .rest) (w .free) ∙ ap (λ (m : ℕ). replicate m unusedRecord) k)
+    w .parts ∙ ap (λ (l : List Record). usedOf rs ++ l) (all-unused-are (w .rest) (w .free) ∙ ap (λ (m : ℕ). replicate m unusedRecord) k)
 
 -- ---- a record leaves
 

@@ -8,7 +8,7 @@ use borrow.Author.Tests.{eqb-true, eqb-false}
 use lib.Dec.{eqb}
 use lib.ListN.{length}
 use Rattle.octets.specs.Number.{putAt}
-use Rattle.store_rules.specs.Row.{Record, held, reported, without, joined, usedOf, rowOctets, storeOctets, rowOf, wrongStore}
+use Rattle.store_rules.specs.Row.{Record, held, withTime, without, joined, usedOf, rowOctets, storeOctets, rowOf, wrongStore}
 use Rattle.store_rules.specs.Place.{indexOf, placeOf, removed, joinedOctets}
 use Rattle.store_rules.proofs.Rows.{held-index}
 use Rattle.store_rules.proofs.Stores.{Stores, store-read, stores-right, stores-row}
@@ -21,7 +21,7 @@ use Rattle.records.proofs.Sameness.{clear-same, report-same, report-octets, unr
 use Rattle.responder_rules.specs.Answer.{Given, asking, rowAfter}
 use Rattle.responder_rules.proofs.Leaving.{answer-stores}
 use Rattle.records_answer.specs.Answer.{answerRecords}
-use Rattle.records_answer.specs.Same.{Call, clear, wrong, find, time, report, leave, join, answer, Returned, number, onRecords, onOctets, returned, after, AllTyped, SameCalls, Same, Holds, ByRow}
+use Rattle.records_answer.specs.Same.{Call, clear, wrong, find, time, report, leave, join, answer, Returned, number, callOnRecords, callOnOctets, returned, after, AllTyped, SameCalls, Same, Holds, ByRow}
 use Rattle.records_answer.proofs.Fits.{fit-report, fit-leave, fit-join, fit-step}
 use Rattle.records_answer.proofs.Answering.{answer-same, answer-octets, answer-unrefused}
 
@@ -35,7 +35,7 @@ numbered {S} e = ap (λ (w : ℕ × S). (number (w .0), w .1)) e
 abbrev spelled : Returned × List Record → Returned × List ℕ
 spelled w = (w .0, rowOctets (w .1))
 
-step-same : (c : Call) (rs : List Record) → Fit rs → onOctets c (rowOctets rs) ≡ spelled (onRecords c rs)
+step-same : (c : Call) (rs : List Record) → Fit rs → callOnOctets c (rowOctets rs) ≡ spelled (callOnRecords c rs)
 step-same clear rs f = numbered (clear-same rs)
 step-same wrong rs f = ap (λ (b : Bool). (number (cond b 1 0), rowOctets rs)) (wrong-is rs f)
 step-same (find c) rs f = ap (λ (i : ℕ). (number i, rowOctets rs)) (rw (place-is rs f c) (omega arith))
@@ -52,14 +52,14 @@ unfolding returned after
 same-calls rs f [] ts = record { returns = refl; left = refl; row = row-is rs f }
 same-calls rs f (c ∷ cs) ts =
     let e = step-same c rs f in
-    let a : onOctets c (rowOctets rs) .0 ≡ onRecords c rs .0 = ap (λ (w : Returned × List ℕ). w .0) e in
-    let s : onOctets c (rowOctets rs) .1 ≡ rowOctets (onRecords c rs .1) = ap (λ (w : Returned × List ℕ). w .1) e in
-    let w = same-calls (onRecords c rs .1) (fit-step c rs (ts .0) f) cs (ts .1) in
-    let l : returned onOctets cs (onOctets c (rowOctets rs) .1) ≡ returned onRecords cs (onRecords c rs .1) = ap (returned onOctets cs) s ∙ w .returns in
+    let a : callOnOctets c (rowOctets rs) .0 ≡ callOnRecords c rs .0 = ap (λ (w : Returned × List ℕ). w .0) e in
+    let s : callOnOctets c (rowOctets rs) .1 ≡ rowOctets (callOnRecords c rs .1) = ap (λ (w : Returned × List ℕ). w .1) e in
+    let w = same-calls (callOnRecords c rs .1) (fit-step c rs (ts .0) f) cs (ts .1) in
+    let l : returned callOnOctets cs (callOnOctets c (rowOctets rs) .1) ≡ returned callOnRecords cs (callOnRecords c rs .1) = ap (returned callOnOctets cs) s ∙ w .returns in
     record {
       returns = λ i. a i ∷ l i;
-      left = ap (after onOctets cs) s ∙ w .left;
-      row = ap (λ (l : List ℕ). rowOf (after onOctets cs l)) s ∙ w .row;
+      left = ap (after callOnOctets cs) s ∙ w .left;
+      row = ap (λ (l : List ℕ). rowOf (after callOnOctets cs l)) s ∙ w .row;
     }
 
 pub same : Same
@@ -75,14 +75,14 @@ holds rs f s e n row w = record {
 }
 
 -- what a report that is not refused leaves
-report-leaves : (rs : List Record) (c t : ℕ) → reportRecords rs c t .0 ≡ 0 → (reportRefusal rs c t ≡ 0) × (reportRecords rs c t .1 ≡ reported c t rs)
+report-leaves : (rs : List Record) (c t : ℕ) → reportRecords rs c t .0 ≡ 0 → (reportRefusal rs c t ≡ 0) × (reportRecords rs c t .1 ≡ withTime c t rs)
 unfolding reportRecords
 report-leaves rs c t = go (eqb (reportRefusal rs c t) 0) refl
   where
     left : Bool → ℕ × List Record
-    left b = cond b (0, reported c t rs) (reportRefusal rs c t, rs)
+    left b = cond b (0, withTime c t rs) (reportRefusal rs c t, rs)
 
-    go : (b : Bool) → eqb (reportRefusal rs c t) 0 ≡ b → left b .0 ≡ 0 → (reportRefusal rs c t ≡ 0) × (left b .1 ≡ reported c t rs)
+    go : (b : Bool) → eqb (reportRefusal rs c t) 0 ≡ b → left b .0 ≡ 0 → (reportRefusal rs c t ≡ 0) × (left b .1 ≡ withTime c t rs)
     go true q z = (eqb-true (reportRefusal rs c t) 0 q, refl)
     go false q z = absurd (eqb-false (reportRefusal rs c t) 0 q z)
 
@@ -90,12 +90,12 @@ module _ (rs : List Record) (f : Fit rs) (h : wrongRecords rs ≡ false) where
   stored : Stores (rowOctets rs) (length rs) (usedOf rs)
   stored = rw (row-is rs f, size-is rs) at (store-read (rowOctets rs) (row-octets rs) (wrong-is rs f ∙ h))
 
-  report-holds : (c t : ℕ) → t < 2 ^ 64 → reportRecords rs c t .0 ≡ 0 → Holds (reported c t (usedOf rs)) (reportRecords rs c t .1)
+  report-holds : (c t : ℕ) → t < 2 ^ 64 → reportRecords rs c t .0 ≡ 0 → Holds (withTime c t (usedOf rs)) (reportRecords rs c t .1)
   report-holds c t l z =
       let p = report-leaves rs c t z in
       let k = unrefused rs f c t (p .0) .1 in
-      let e = place-reported stored c t k ∙ ap (λ (n : ℕ). storeOctets n (reported c t (usedOf rs))) (sym (size-is rs)) ∙ report-octets rs f c t h k ∙ ap rowOctets (sym (p .1)) in
-      holds (reportRecords rs c t .1) (fit-report rs c t l f) (putAt (rowOctets rs) (placeOf (rowOctets rs) c + 8) 8 t) e (length rs) (reported c t (usedOf rs)) (stores-reported stored c t l k)
+      let e = place-reported stored c t k ∙ ap (λ (n : ℕ). storeOctets n (withTime c t (usedOf rs))) (sym (size-is rs)) ∙ report-octets rs f c t h k ∙ ap rowOctets (sym (p .1)) in
+      holds (reportRecords rs c t .1) (fit-report rs c t l f) (putAt (rowOctets rs) (placeOf (rowOctets rs) c + 8) 8 t) e (length rs) (withTime c t (usedOf rs)) (stores-reported stored c t l k)
 
   leave-holds : (c : ℕ) → held c (usedOf rs) ≡ true → Holds (without c (usedOf rs)) (leaveRecords rs (indexOf c rs))
   leave-holds c k =

@@ -19,8 +19,8 @@ use Rattle.responder_rules.proofs.Accepting.{not-given}
 use Rattle.responder.proofs.Writing.{header-put, answer-put}
 use Rattle.responder.proofs.Deciding.{lent-size, lent-back}
 use Rattle.records_answer.specs.Answer.{outcome}
-use Rattle.records_answer.specs.Sent.{Ready, sentOctets, sentBy}
-use Rattle.records_answer.specs.declared.Step.{Step}
+use Rattle.records_answer.specs.Sent.{Ready, sentOctets, answerSent}
+use Rattle.records_answer.specs.declared.AnswerStep.{AnswerStep}
 
 -- ---- checking
 
@@ -57,7 +57,7 @@ module _ {checked : Reading} (g : Given) (out : List ℕ) (ready : Ready checked
       header (Fields h) = h
       header (Refused n) = asked
 
-  module _ (step : Step) (z : step .refusal ≡ 0) {h asked : Header} (a : asked ≡ asking g) (e : h ≡ answerHeader (g .server) asked (g .receive) (g .estimate) (g .freshCookie) (step .saved)) where
+  module _ (step : AnswerStep) (z : step .refusal ≡ 0) {h asked : Header} (a : asked ≡ asking g) (e : h ≡ answerHeader (g .server) asked (g .receive) (g .estimate) (g .freshCookie) (step .saved)) where
     -- header and fields stand in the part of the output
     part-sent : {k : ℕ} {l m : List ℕ} → (k, l) ≡ written h (take (length (g .request) - 0) (drop 0 out)) → m ≡ fieldsWritten (g .request) (g .filter) (g .information) l → m ≡ sentOctets g (step .saved)
     part-sent {k} {l} {m} w f =
@@ -68,8 +68,8 @@ module _ {checked : Reading} (g : Given) (out : List ℕ) (ready : Ready checked
         answer-put h (g .request) (g .filter) (g .information) part (ok .request) same (ok .filter) (ok .information) put f ∙ rw (e, a)
 
     pub all-sent : {k : ℕ} {l m : List ℕ} → (k, l) ≡ written h (take (length (g .request) - 0) (drop 0 out)) → m ≡ fieldsWritten (g .request) (g .filter) (g .information) l
-        → outcome (Written (length (g .request))) (putMid 0 (length (g .request) - 0) out m) [] ≡ sentBy g step out
+        → outcome (Written (length (g .request))) (putMid 0 (length (g .request) - 0) out m) [] ≡ answerSent g step out
     all-sent {k} {l} {m} w f = rw (lent-back out m (length (g .request)), part-sent w f, eq-eqb (step .refusal) 0 z)
 
-pub none-sent : (g : Given) (out : List ℕ) (step : Step) → (step .refusal ≡ 0 → ⊥) → outcome (RefusedAnswer (step .refusal)) out [] ≡ sentBy g step out
+pub none-sent : (g : Given) (out : List ℕ) (step : AnswerStep) → (step .refusal ≡ 0 → ⊥) → outcome (RefusedAnswer (step .refusal)) out [] ≡ answerSent g step out
 none-sent g out step z = rw (ne-eqb (step .refusal) 0 z)

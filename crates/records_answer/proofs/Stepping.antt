@@ -6,7 +6,7 @@ use Prim.Native.Nat.{ℕ, _≤_}
 use native.Mathlib.Omega.{arith}
 use borrow.Author.Tests.{eqb-false, ltb-false}
 use lib.Dec.{eqb, ltb}
-use lib.ListN.{length, getD}
+use lib.ListN.{length}
 use Rattle.header.specs.declared.Header.{Header}
 use Rattle.header.specs.declared.ServerCookie.{ServerCookie}
 use Rattle.header.specs.declared.Reading.{Reading}
@@ -16,12 +16,12 @@ use Rattle.store_rules.specs.Place.{indexOf}
 use Rattle.octets.proofs.Tests.{or-none}
 use Rattle.store_rules.proofs.Rows.{held-index, time-held}
 use Rattle.store_rules.proofs.Kept.{length-without, without-absent}
-use Rattle.records.specs.Records.{unusedRecord, wrongRecords, leaveRecords, joinRecords}
+use Rattle.records.specs.Records.{timeAt, wrongRecords, leaveRecords, joinRecords}
 use Rattle.records.proofs.Moves.{leave-past}
 use Rattle.records.proofs.Sounds.{Sound, held-row, time-row, time-at, right-sound}
 use Rattle.responder_rules.specs.Answer.{wantsInterleaved, savedTime, rowAfter, wrongFresh, refusedAnswer}
-use Rattle.records_answer.specs.Step.{Stepped, stepped, rowInRecords, refuse, answerStep}
-use Rattle.records_answer.specs.Value.{askedCookie, unchangedPlan, keepingPlan, planFor, planOf}
+use Rattle.records_answer.specs.Step.{Stepped, stepped, rowInRecords, refusedStep, answerStep}
+use Rattle.records_answer.specs.Value.{requestCookie, unchangedPlan, keepingPlan, planFor, planOf}
 use Rattle.records_answer.specs.declared.value.Plan.{Plan}
 use Rattle.records_answer.proofs.RowInRecords.{row-most, right-row, leave-row, join-row}
 
@@ -58,7 +58,7 @@ module _ (rs : List Record) (freshCookie : ServerCookie) where
     cookie = asked .«server_cookie» .0
 
     abbrev time : ℕ
-    time = getD rs (indexOf cookie rs) unusedRecord .time
+    time = timeAt rs (indexOf cookie rs)
 
     -- 8 is tested as the row has it
     fresh-test : wantsInterleaved asked && (eqb f 0 || ltb (indexOf f rs) n) ≡ wrongFresh asked f row
@@ -93,21 +93,21 @@ module _ (rs : List Record) (freshCookie : ServerCookie) where
         go : (b : Bool) → stepBy (keepingPlan b n (indexOf cookie rs) time)
             ≡ record { refusal = 0; saved = cond b (timeOf cookie row) 0; records = rowInRecords n (cond b (joined n f (cond (eqb (cond b (timeOf cookie row) 0) 0) row (without cookie row))) row) }
         go true = rw time-found (ap (λ (l : List Record). record { refusal = 0; saved = time; records = l }) (joins (eqb time 0) refl))
-        go false = ap (refuse 0) (right-row rs w)
+        go false = ap (refusedStep 0) (right-row rs w)
 
     -- what a refusal makes of the plan, and of the step
-    planned : (refusal : ℕ) → stepBy (cond (eqb refusal 0) (keepingPlan (wantsInterleaved asked) n (indexOf cookie rs) time) (unchangedPlan refusal n)) ≡ cond (eqb refusal 0) done (refuse refusal rs)
+    planned : (refusal : ℕ) → stepBy (cond (eqb refusal 0) (keepingPlan (wantsInterleaved asked) n (indexOf cookie rs) time) (unchangedPlan refusal n)) ≡ cond (eqb refusal 0) done (refusedStep refusal rs)
     planned refusal = go (eqb refusal 0)
       where
-        go : (b : Bool) → stepBy (cond b (keepingPlan (wantsInterleaved asked) n (indexOf cookie rs) time) (unchangedPlan refusal n)) ≡ cond b done (refuse refusal rs)
+        go : (b : Bool) → stepBy (cond b (keepingPlan (wantsInterleaved asked) n (indexOf cookie rs) time) (unchangedPlan refusal n)) ≡ cond b done (refusedStep refusal rs)
         go true = keeps
         go false = refl
 
   -- what was found in the records
   abbrev pub planOn : Reading → (short : Bool) → Plan
   planOn request short =
-      let at = indexOf (askedCookie request .0) rs in
-      planOf (wrongRecords rs) request short freshCookie (length rs) (indexOf (freshCookie .0) rs) at (getD rs at unusedRecord .time)
+      let at = indexOf (requestCookie request .0) rs in
+      planOf (wrongRecords rs) request short freshCookie (length rs) (indexOf (freshCookie .0) rs) at (timeAt rs at)
 
   pub plan-steps : (request : Reading) (short : Bool) → stepBy (planOn request short) ≡ answerStep request short (freshCookie .0) rs
   unfolding answerStep
@@ -117,8 +117,8 @@ module _ (rs : List Record) (freshCookie : ServerCookie) where
       at : ℕ
       at = indexOf (asked .«server_cookie» .0) rs
 
-      go : (six : Bool) → wrongRecords rs ≡ six → stepBy (planFor six asked short freshCookie (length rs) (indexOf (freshCookie .0) rs) at (getD rs at unusedRecord .time))
+      go : (six : Bool) → wrongRecords rs ≡ six → stepBy (planFor six asked short freshCookie (length rs) (indexOf (freshCookie .0) rs) at (timeAt rs at))
           ≡ let n = refusedAnswer six 0 (wrongFresh asked (freshCookie .0) (usedOf rs)) short in
-          cond (eqb n 0) (record { refusal = 0; saved = savedTime asked (usedOf rs); records = rowInRecords (length rs) (rowAfter asked (freshCookie .0) (length rs) (usedOf rs)) }) (refuse n rs)
+          cond (eqb n 0) (record { refusal = 0; saved = savedTime asked (usedOf rs); records = rowInRecords (length rs) (rowAfter asked (freshCookie .0) (length rs) (usedOf rs)) }) (refusedStep n rs)
       go true e = refl
       go false e = rw (fresh-test e asked) (planned e asked (refusedAnswer false 0 (wrongFresh asked (freshCookie .0) (usedOf rs)) short))

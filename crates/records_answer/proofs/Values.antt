@@ -18,10 +18,10 @@ use Rattle.responder_rules.proofs.Server as Sv
 use Rattle.responder_rules.proofs.Server.Laws as Sv′
 use Rattle.responder_rules.proofs.Answered as An
 use Rattle.responder_rules.proofs.Answered.Laws as An′
-use Rattle.records_answer.specs.declared.Step.{Step}
+use Rattle.records_answer.specs.declared.AnswerStep.{AnswerStep}
 use Rattle.records_answer.specs.declared.value.Plan.{Plan}
-use Rattle.records_answer.proofs.Step as St
-use Rattle.records_answer.proofs.Step.Laws as St′
+use Rattle.records_answer.proofs.AnswerStep as St
+use Rattle.records_answer.proofs.AnswerStep.Laws as St′
 use Rattle.records_answer.proofs.value.Plan as P
 use Rattle.records_answer.proofs.value.Plan.Laws as P′
 
@@ -34,8 +34,8 @@ IsServer r = Is Sv.the-row r (Sv′.lowered r ∷ [])
 abbrev pub IsAnswered : Answered → Type 0
 IsAnswered r = Is An.the-row r (An′.lowered r ∷ [])
 
-abbrev pub IsStep : Step → Type 0
-IsStep r = Is St.the-row r (St′.lowered r ∷ [])
+abbrev pub IsAnswerStep : AnswerStep → Type 0
+IsAnswerStep r = Is St.the-row r (St′.lowered r ∷ [])
 
 abbrev pub IsPlan : Plan → Type 0
 IsPlan r = Is P.the-row r (P′.lowered r ∷ [])
@@ -44,12 +44,12 @@ IsPlan r = Is P.the-row r (P′.lowered r ∷ [])
 pub leap-fits : (s : Server) → IsServer s → s .leap < 2 ^ 8
 leap-fits s g = LL.owed Sv.the-type Sv′.the-laws s (Sv′.lowered s ∷ []) g .0 .1
 
-pub is-step : (p : Plan) → IsPlan p → IsStep (p .step)
+pub is-step : (p : Plan) → IsPlan p → IsAnswerStep (p .step)
 is-step p g = LL.owed P.the-type P′.the-laws p (P′.lowered p ∷ []) g .0
 
 pub leaving-fits : (p : Plan) → IsPlan p → p .leaving < 2 ^ 64
 leaving-fits p g = LL.owed P.the-type P′.the-laws p (P′.lowered p ∷ []) g .1 .1 .0 .1
 
 -- a step's machine value is of its type
-pub step-typed : {M : Type 1} {𝓤 : URA M} {H : Heap 𝓤} {A : Atoms 𝓤} (W : Given 𝓤 H A) (r : Step) → IsStep r → T (hasTy St′.mir (St′.lowered r)) × WT (St′.lowered r)
+pub step-typed : {M : Type 1} {𝓤 : URA M} {H : Heap 𝓤} {A : Atoms 𝓤} (W : Given 𝓤 H A) (r : AnswerStep) → IsAnswerStep r → T (hasTy St′.mir (St′.lowered r)) × WT (St′.lowered r)
 step-typed {𝓤 = 𝓤} {H = H} {A = A} W r g = LL.lawful St.the-type St′.the-laws 𝓤 H A W .typed r (St′.lowered r ∷ []) g .0

@@ -12,7 +12,7 @@ use Rattle.store_rules.specs.Row.{Record, usedOf}
 use Rattle.records.specs.Records.{wrongRecords}
 use Rattle.responder_rules.specs.Answer.{Given, asking, savedTime, rowAfter, firstRefusal, wrongFresh, shortOutput, refusedAnswer, outputAfter}
 use Rattle.responder_rules.proofs.Accepting.{none-refused}
-use Rattle.records_answer.specs.Step.{Stepped, rowInRecords, refuse, answerStep}
+use Rattle.records_answer.specs.Step.{Stepped, rowInRecords, refusedStep, answerStep}
 use Rattle.records_answer.specs.Answer.{stepOf, answerRecords}
 
 module _ (g : Given) (rs : List Record) where
@@ -34,23 +34,23 @@ module _ (g : Given) (rs : List Record) (out : List ℕ) where
   stepRefusal = refusedAnswer (wrongRecords rs) (firstRefusal g) wrongCookie (shortOutput g out)
 
   step-at : (first : ℕ) → let n = refusedAnswer (wrongRecords rs) first wrongCookie (shortOutput g out) in
-      answerStep (reading first (asking g)) (shortOutput g out) (g .freshCookie) rs ≡ cond (eqb n 0) (done g rs) (refuse n rs)
+      answerStep (reading first (asking g)) (shortOutput g out) (g .freshCookie) rs ≡ cond (eqb n 0) (done g rs) (refusedStep n rs)
   unfolding answerStep
   step-at zero = refl
   step-at (suc n) = rw (ne-eqb (suc n) 0 (λ k. omega (arith, k))) (go (wrongRecords rs))
     where
-      go : (six : Bool) → refuse (cond six 6 (suc n)) rs ≡ cond (eqb (cond six 6 (suc n)) 0) (done g rs) (refuse (cond six 6 (suc n)) rs)
+      go : (six : Bool) → refusedStep (cond six 6 (suc n)) rs ≡ cond (eqb (cond six 6 (suc n)) 0) (done g rs) (refusedStep (cond six 6 (suc n)) rs)
       go true = refl
       go false = rw (ne-eqb (suc n) 0 (λ k. omega (arith, k)))
 
   -- the step by its refusal
-  pub step-is : stepOf g rs out ≡ cond (eqb stepRefusal 0) (done g rs) (refuse stepRefusal rs)
+  pub step-is : stepOf g rs out ≡ cond (eqb stepRefusal 0) (done g rs) (refusedStep stepRefusal rs)
   step-is = step-at (firstRefusal g)
 
   pub way : Way g rs (firstRefusal g) (shortOutput g out) (stepOf g rs out)
   way = rw step-is (go (eqb stepRefusal 0) refl)
     where
-      go : (b : Bool) → eqb stepRefusal 0 ≡ b → Way g rs (firstRefusal g) (shortOutput g out) (cond b (done g rs) (refuse stepRefusal rs))
+      go : (b : Bool) → eqb stepRefusal 0 ≡ b → Way g rs (firstRefusal g) (shortOutput g out) (cond b (done g rs) (refusedStep stepRefusal rs))
       go true q =
           let none = none-refused (wrongRecords rs) (firstRefusal g) wrongCookie (shortOutput g out) (eqb-true stepRefusal 0 q) in
           goes (none .1) (none .3) refl

@@ -12,7 +12,7 @@ use Rattle.chain.specs.Content.{chainOctets}
 use Rattle.responder_rules.specs.Answer.{Given, asking, answerHeader, sentFields, shortOutput}
 use Rattle.responder_rules.specs.Claim.{Accepted}
 use Rattle.records_answer.specs.Answer.{Outcome}
-use Rattle.records_answer.specs.declared.Step.{Step}
+use Rattle.records_answer.specs.declared.AnswerStep.{AnswerStep}
 
 -- what holds where the step is not refused
 pub record Ready (checked : Reading) (g : Given) (out : List ℕ) : Type 0 where
@@ -25,8 +25,8 @@ abbrev pub sentOctets : Given → (saved : ℕ) → List ℕ
 sentOctets g saved = headerOctets (answerHeader (g .server) (asking g) (g .receive) (g .estimate) (g .freshCookie) saved) ++ chainOctets (sentFields g)
 
 -- the step's refusal, or the answer with the saved time that the step found; of the records nothing is said
-abbrev pub sentBy : Given → Step → (out : List ℕ) → Outcome
-sentBy g step out =
+abbrev pub answerSent : Given → AnswerStep → (out : List ℕ) → Outcome
+answerSent g step out =
     cond (eqb (step .refusal) 0)
     (record { refusal = 0; size = length (g .request); out = sentOctets g (step .saved) ++ drop (length (g .request)) out; records = [] })
     (record { refusal = step .refusal; size = 0; out = out; records = [] })

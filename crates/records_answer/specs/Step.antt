@@ -9,7 +9,7 @@ use Rattle.header.specs.declared.Reading.the-variants.{Fields, Refused}
 use Rattle.store_rules.specs.Row.{Record, usedOf}
 use Rattle.records.specs.Records.{unusedRecord, wrongRecords}
 use Rattle.responder_rules.specs.Answer.{savedTime, rowAfter, wrongFresh, refusedAnswer}
-use Rattle.records_answer.specs.declared.Step.{Step}
+use Rattle.records_answer.specs.declared.AnswerStep.{AnswerStep}
 
 -- a row in n records: the used ones first
 abbrev pub rowInRecords : ℕ → List Record → List Record
@@ -22,17 +22,17 @@ pub record Stepped : Type 0 where
   pub records : List Record
 
 -- what the call returns and leaves, as such
-abbrev pub stepped : Step → List Record → Stepped
+abbrev pub stepped : AnswerStep → List Record → Stepped
 stepped r rs = record { refusal = r .refusal; saved = r .saved; records = rs }
 
 -- a refusal leaves the records
-abbrev pub refuse : ℕ → List Record → Stepped
-refuse n rs = record { refusal = n; saved = 0; records = rs }
+abbrev pub refusedStep : ℕ → List Record → Stepped
+refusedStep n rs = record { refusal = n; saved = 0; records = rs }
 
 -- `request` is its header, or what it or the arguments are refused by (6, then 1 to 5): then 8 and 11 are not looked at. `short`: the output
 -- is shorter than the answer. The records change only where nothing refuses
 unfoldable pub answerStep : (request : Reading) (short : Bool) (freshCookie : ℕ) → List Record → Stepped
-answerStep (Refused n) short freshCookie rs = refuse (refusedAnswer (wrongRecords rs) n false false) rs
+answerStep (Refused n) short freshCookie rs = refusedStep (refusedAnswer (wrongRecords rs) n false false) rs
 answerStep (Fields asked) short freshCookie rs =
     let n = refusedAnswer (wrongRecords rs) 0 (wrongFresh asked freshCookie (usedOf rs)) short in
     cond (eqb n 0)
@@ -41,4 +41,4 @@ answerStep (Fields asked) short freshCookie rs =
       saved = savedTime asked (usedOf rs);
       records = rowInRecords (length rs) (rowAfter asked freshCookie (length rs) (usedOf rs));
     })
-    (refuse n rs)
+    (refusedStep n rs)

@@ -10,9 +10,9 @@ use Rattle.responder_rules.specs.Answer.{wantsInterleaved, refusedAnswer}
 use Rattle.records_answer.specs.declared.value.Plan.{Plan}
 
 -- the server cookie of a request; 0 where it is refused
-abbrev pub askedCookie : Reading → ServerCookie
-askedCookie (Fields asked) = asked .«server_cookie»
-askedCookie (Refused n) = record { 0 = 0 }
+abbrev pub requestCookie : Reading → ServerCookie
+requestCookie (Fields asked) = asked .«server_cookie»
+requestCookie (Refused n) = record { 0 = 0 }
 
 -- the records stay, of which there are n: a refusal, or a basic answer that is not refused
 abbrev pub unchangedPlan : (refusal n : ℕ) → Plan

@@ -1,5 +1,5 @@
 // The parts of an answer that do not look at the records.
-use crate::Step;
+use crate::AnswerStep;
 use header::Reading;
 use header::ServerCookie;
 use responder_rules::Answered;
@@ -9,7 +9,7 @@ ghost use mathlib.Core.List.{[]};
 ghost use Rattle.header.specs.Header.{headerOf, reading};
 ghost use Rattle.responder_rules.specs.Answer.{argumentsRefusal};
 ghost use Rattle.records_answer.specs.Answer.{outcome};
-ghost use Rattle.records_answer.specs.Sent.{Ready, sentBy};
+ghost use Rattle.records_answer.specs.Sent.{Ready, answerSent};
 
 // The header of the request, or what it or the arguments are refused by: 6, then 1 to 5.
 pub(crate) fn checked(
@@ -32,7 +32,7 @@ pub(crate) fn checked(
 
 // What the step returned is the refusal, or the answer is written to the start of `out`.
 pub(crate) fn sent(
-    step: Step,
+    step: AnswerStep,
     checked: Reading,
     request: &[u8],
     receive: u64,
@@ -52,7 +52,7 @@ pub(crate) fn sent(
       filter = now filter;
       information = now information;
     }) (now out)) ⌝ }
-    ensures { λ r. ⌜ outcome r (now (out .exit)) [] ≡ sentBy (record {
+    ensures { λ r. ⌜ outcome r (now (out .exit)) [] ≡ answerSent (record {
       request = now (request .entry);
       receive = receive;
       estimate = estimate;

@@ -13,7 +13,7 @@ ghost use Rattle.records_answer.specs.Step.{stepped, answerStep};
 ghost use Rattle.records_answer.specs.Answer.{outcome, answerRecords};
 
 // What the step of an answer on the records returns: its refusal, and the saved time that is sent, 0 in a basic answer.
-pub struct Step {
+pub struct AnswerStep {
     pub refusal: u8,
     pub saved: u64,
 }
@@ -25,7 +25,7 @@ pub fn answer_step(
     request: Reading,
     short: bool,
     fresh_cookie: ServerCookie,
-) -> Step
+) -> AnswerStep
     ensures { λ r. ⌜ stepped r (recordsIn (now (records .exit))) ≡ answerStep request short («fresh_cookie» .0) (recordsIn (now (records .entry))) ⌝ }
 {
     let is_wrong = records::wrong(records);

@@ -1,23 +1,23 @@
 // What a step decides, by value.
-use crate::Step;
+use crate::AnswerStep;
 use answer_header::wants_interleaved;
 use header::Header;
 use header::Reading;
 use header::ServerCookie;
 ghost use mathlib.Core.Path.{_≡_};
 ghost use Rattle.responder_rules.specs.Answer.{refusedAnswer};
-ghost use Rattle.records_answer.specs.Value.{askedCookie, unchangedPlan, keepingPlan, planFor, planOf};
+ghost use Rattle.records_answer.specs.Value.{requestCookie, unchangedPlan, keepingPlan, planFor, planOf};
 
 // What a step returns, and whether the records stay; if not, the place of the record that leaves (past the end, none) before the fresh cookie joins.
 pub struct Plan {
-    pub step: Step,
+    pub step: AnswerStep,
     pub unchanged: bool,
     pub leaving: usize,
 }
 
 // The server cookie of a request; 0 where it is refused.
 pub(crate) fn asked_cookie(request: Reading) -> ServerCookie
-    ensures { λ r. ⌜ r ≡ askedCookie request ⌝ }
+    ensures { λ r. ⌜ r ≡ requestCookie request ⌝ }
 {
     let Reading::Fields(asked) = request else {
         return ServerCookie(0);
@@ -29,7 +29,7 @@ pub(crate) fn asked_cookie(request: Reading) -> ServerCookie
 fn unchanged(refusal: u8, n: usize) -> Plan
     ensures { λ r. ⌜ r ≡ unchangedPlan refusal n ⌝ }
 {
-    let step = Step { refusal, saved: 0 };
+    let step = AnswerStep { refusal, saved: 0 };
     Plan {
         step,
         unchanged: true,
@@ -42,7 +42,7 @@ fn keeping(wants: bool, n: usize, at: usize, time: u64) -> Plan
     ensures { λ r. ⌜ r ≡ keepingPlan wants n at time ⌝ }
 {
     if wants {
-        let step = Step {
+        let step = AnswerStep {
             refusal: 0,
             saved: time,
         };

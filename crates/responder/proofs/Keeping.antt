@@ -2,7 +2,7 @@
 use mathlib.Core.Path.{_≡_, refl, sym, _∙_}
 use mathlib.Core.Bool.{Bool, true, false, cond, _||_}
 use mathlib.Core.List.{List}
-use Prim.Native.Nat.{ℕ, _+_, _≤_}
+use Prim.Native.Nat.{ℕ, _+_}
 use native.Mathlib.Omega.{arith}
 use borrow.Author.Tests.{eq-eqb, ne-eqb, eqb-false}
 use lib.Dec.{eqb, ltb}
@@ -13,7 +13,7 @@ use Rattle.store_rules.specs.Row.{Record, held, timeOf, without, storeOctets, s
 use Rattle.store_rules.specs.Place.{placeOf, removed, joinedOctets}
 use Rattle.store_rules.proofs.Rows.{time-held}
 use Rattle.store_rules.proofs.Stores.{Stores, store-read, store-written}
-use Rattle.store_rules.proofs.Changed.{place-held, place-time, place-removed, place-joined, place-most as ends}
+use Rattle.store_rules.proofs.Changed.{place-held, place-time, place-removed, place-joined}
 use Rattle.store_rules.proofs.Kept.{length-without, sound-without}
 use Rattle.responder_rules.specs.Answer.{wantsInterleaved, savedTime, rowAfter}
 
@@ -32,10 +32,6 @@ module _ (s : List ℕ) (o : Octets s) (right : wrongStore s ≡ false) where
   -- the time at a cookie's place
   pub time-there : (c : ℕ) → getAt s (placeOf s c + 8) 8 ≡ timeOf c (rowOf s)
   time-there c = sym (place-time stored c)
-
-  -- the place of a cookie is no further than the end
-  pub place-most : (c : ℕ) → placeOf s c ≤ length s
-  place-most c = ends stored c
 
   module _ (c time : ℕ) (e : time ≡ timeOf c (rowOf s)) where
     abbrev left : List Record

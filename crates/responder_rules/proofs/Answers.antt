@@ -7,6 +7,7 @@ use native.Mathlib.Omega.{arith}
 use lib.Dec.{eqb, lit<}
 use lib.ListN.{length, take, drop, length-append}
 use lib.Seq.{drop-at}
+use Rattle.octets.proofs.Tests.{by-test}
 use Rattle.header.specs.Header.{headerOf, headerOctets}
 use Rattle.header.specs.declared.Header.{Header}
 use Rattle.header.specs.Claim.{Passes, InRange as HeaderRange}
@@ -21,7 +22,7 @@ use Rattle.field_role.specs.declared.Role.the-variants.{FilterRequest}
 use Rattle.chain.proofs.Datagrams.{header-passes, sound-datagram}
 use Rattle.field_role.proofs.Roles.{good-parts, size-allowed}
 use Rattle.chain.proofs.Contents.{fit-append, chain-fours, length-chain-append, fields-written, chain-written, contents-written}
-use Rattle.store_rules.specs.Row.{Record, timeOf}
+use Rattle.store_rules.specs.Row.{Record}
 use Rattle.responder_rules.specs.Answer.{Given, wantsInterleaved, savedTime, sentHeader, answersTo, paddingOf, answerFields, answerOctets, asking, sentFields}
 use Rattle.responder_rules.specs.Claim.{Accepted, InRange, AnswerClaim}
 use Rattle.responder_rules.proofs.Room.{answers-fit, all-fit, padding-size, padding-fits, response-length}
@@ -108,17 +109,13 @@ module _ (g : Given) (a : Accepted g) where
 
 -- the numbers of an answer's header are in range
 
-pub either : (b : Bool) (x y n : ℕ) → x < n → y < n → cond b x y < n
-either true x y n h k = h
-either false x y n h k = k
-
 flags-range : (b : Bool) (flags : ℕ) → flags < 2 ^ 16 → flags - flags / 2 % 2 * 2 + cond b 0 2 < 2 ^ 16
 flags-range true flags h = omega arith
 flags-range false flags h = omega arith
 
 module _ (g : Given) (row : List Record) (a : Accepted g) (r : InRange g row) where
   saved-range : savedTime (asking g) row < 2 ^ 64
-  saved-range = either (wantsInterleaved (asking g)) (timeOf (headerOf (g .request) .«server_cookie» .0) row) 0 (2 ^ 64) (r .times _) (lit< tt)
+  saved-range = by-test (λ (n : ℕ). n < 2 ^ 64) (wantsInterleaved (asking g)) (λ e. r .times _) (λ e. lit< tt)
 
   -- all of them
   header-range : HeaderRange (sentHeader g row)
@@ -135,10 +132,10 @@ module _ (g : Given) (row : List Record) (a : Accepted g) (r : InRange g row) wh
         flags = flags-range (eqb (savedTime (asking g) row) 0) (g .server .flags) (r .flags);
         delay = r .delay;
         dispersion = r .dispersion;
-        server = either (wantsInterleaved (asking g)) (g .freshCookie) 0 (2 ^ 64) (r .freshCookie) (lit< tt);
+        server = by-test (λ (n : ℕ). n < 2 ^ 64) (wantsInterleaved (asking g)) (λ e. r .freshCookie) (λ e. lit< tt);
         client = read-in-range (g .request) (r .request) .client;
         receive = r .receive;
-        transmit = either (eqb (savedTime (asking g) row) 0) (g .estimate) (savedTime (asking g) row) (2 ^ 64) (r .estimate) saved-range;
+        transmit = by-test (λ (n : ℕ). n < 2 ^ 64) (eqb (savedTime (asking g) row) 0) (λ e. r .estimate) (λ e. saved-range);
       }
 
   -- an answer's header reads as the values that went in

@@ -13,17 +13,17 @@ use Rattle.octets.proofs.Written.{small-octets, zeros-octets}
 use Rattle.header.specs.Header.{headerOf, headerOctets, refusal}
 use Rattle.chain.specs.Chain.{allZero, stepAt, walkFor, walk, chainRefusal, soundRefusal}
 use Rattle.chain.specs.Content.{chainOctets}
-use Rattle.store_rules.specs.Row.{Record, held, timeOf, reported, without, rowOctets, storeOctets, sizeOf, rowOf, recordsFrom, allUnused, usedOf, soundRecords, wrongStore, cleared, reporting}
+use Rattle.store_rules.specs.Row.{Record, held, timeOf, withTime, without, rowOctets, storeOctets, sizeOf, rowOf, recordsFrom, allUnused, usedOf, soundRecords, wrongStore, cleared, reporting}
 use Rattle.responder_rules.specs.declared.Server.{Server}
 use Rattle.responder_rules.specs.Answer.{Given, Outcome, asking, rowAfter, answersTo, answerFields, answerOctets, answerRefusal, answerOf}
 use Rattle.responder_rules.specs.Call.{Call, clear, report, answer, Responder}
 use Rattle.responder_rules.specs.Claim.{InRange, Answerable, AnswerSent, EveryAnswerFor, Reportable, EveryReportFor}
 use Rattle.responder_rules.specs.Refused.{RefusalsFor}
-use Rattle.responder_rules.specs.Once.{AllTyped, Event, events, clears, other, reports, sends, clearedBy, eachSentOnce, OnceFor}
+use Rattle.responder_rules.specs.Once.{AllTyped, Observed, observations, clears, other, reports, sends, clearedBy, eachSentOnce, OnceFor}
 use Rattle.responder_rules.specs.Idle.{refusesRequests, RefusesRequests, RefusesReports, doesNothing, WritesNothing, StoresNothing, answersFromOne, SentOnceFor, IdleRejected, HoldsOfRefusing}
 use Rattle.responder_rules.proofs.Exact.{every-report}
 use Rattle.responder_rules.proofs.Refused.{refusals}
-use Rattle.responder_rules.proofs.SentOnce.{LeavesStores, step-holds, reached-holds, cleared-holds, right-store, sent-twice}
+use Rattle.responder_rules.proofs.SentOnce.{LeavesStores, step-holds, calls-hold, cleared-holds, right-store, sent-twice}
 
 -- ---- one record, requests of 48 octets
 
@@ -149,8 +149,8 @@ calls-typed =
     let again = given-typed 1 2 (small-octets (request 1) refl) (lit< tt) in
     (given-typed 0 1 (small-octets (request 0) refl) (lit< tt), ((lit< tt, lit< tt), (again, (again, tt))))
 
-observed : events answersFromOne calls (clearedBy answersFromOne zeros) ≡ other ∷ reports 1 5 ∷ sends 1 5 ∷ sends 1 5 ∷ []
-unfolding events answerOf answerRefusal wrongStore soundRecords allUnused usedOf recordsFrom num headerOf refusal soundRefusal chainRefusal walk walkFor stepAt allZero answerOctets answerFields answersTo chainOctets headerOctets spelled octets storeOctets rowOctets held timeOf reported without cleared reporting
+observed : observations answersFromOne calls (clearedBy answersFromOne zeros) ≡ other ∷ reports 1 5 ∷ sends 1 5 ∷ sends 1 5 ∷ []
+unfolding observations answerOf answerRefusal wrongStore soundRecords allUnused usedOf recordsFrom num headerOf refusal soundRefusal chainRefusal walk walkFor stepAt allZero answerOctets answerFields answersTo chainOctets headerOctets spelled octets storeOctets rowOctets held timeOf withTime without cleared reporting
 observed = refl
 
 sending-twice : SentOnceFor answersFromOne → ⊥
@@ -172,22 +172,22 @@ idle-rejected = record {
 -- ---- what holds of the responder that refuses every request
 
 -- an accepted call is observed as an event, a refused one as none
-if-accepted : (b : Bool) (e : Event) (unsent : List Record) (es : List Event) → eachSentOnce unsent (e ∷ es) ≡ true → eachSentOnce unsent es ≡ true
+if-accepted : (b : Bool) (e : Observed) (unsent : List Record) (es : List Observed) → eachSentOnce unsent (e ∷ es) ≡ true → eachSentOnce unsent es ≡ true
     → eachSentOnce unsent (cond b e other ∷ es) ≡ true
 unfolding eachSentOnce
 if-accepted true e unsent es h k = h
 if-accepted false e unsent es h k = k
 
 -- it sends no time
-none-sent : (cs : List Call) (unsent : List Record) (s : List ℕ) → eachSentOnce unsent (events refusesRequests cs s) ≡ true
-unfolding eachSentOnce events
+none-sent : (cs : List Call) (unsent : List Record) (s : List ℕ) → eachSentOnce unsent (observations refusesRequests cs s) ≡ true
+unfolding eachSentOnce observations
 none-sent [] unsent s = refl
 none-sent (clear ∷ cs) unsent s =
     let t = cleared s .1 in
-    if-accepted (eqb (cleared s .0) 0) clears unsent (events refusesRequests cs t) (none-sent cs [] t) (none-sent cs unsent t)
+    if-accepted (eqb (cleared s .0) 0) clears unsent (observations refusesRequests cs t) (none-sent cs [] t) (none-sent cs unsent t)
 none-sent (report c t ∷ cs) unsent s =
     let u = reporting s c t .1 in
-    if-accepted (eqb (reporting s c t .0) 0) (reports c t) unsent (events refusesRequests cs u)
+    if-accepted (eqb (reporting s c t .0) 0) (reports c t) unsent (observations refusesRequests cs u)
     (none-sent cs (record { cookie = c; time = t } ∷ without c unsent) u) (none-sent cs unsent u)
 none-sent (answer g out ∷ cs) unsent s = none-sent cs unsent s
 
@@ -199,7 +199,7 @@ refusing-holds (answer g out) s n r h = h
 refusing-once : OnceFor refusesRequests
 refusing-once s h cs t = record {
   sent-once = none-sent cs [] _;
-  store-right = right-store (reached-holds refusesRequests refusing-holds cs (cleared s .1) (sizeOf s) t (cleared-holds s h) .stores);
+  store-right = right-store (calls-hold refusesRequests refusing-holds cs (cleared s .1) (sizeOf s) t (cleared-holds s h) .stores);
   record-left = λ g out r e. absurd (false≢true e);
 }
 

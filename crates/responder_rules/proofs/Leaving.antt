@@ -7,6 +7,7 @@ use native.Mathlib.Omega.{arith}
 use borrow.Author.Tests.{eqb-false}
 use lib.Dec.{eqb, lit<}
 use lib.ListN.{length}
+use Rattle.octets.proofs.Tests.{by-test}
 use Rattle.store_rules.specs.Row.{Record, held, timeOf, without, joined, storeOctets}
 use Rattle.store_rules.proofs.Rows.{SoundRow}
 use Rattle.store_rules.proofs.Stores.{Stores, store-written, stores-row, stores-size}
@@ -15,14 +16,13 @@ use Rattle.store_rules.proofs.Joins.{length-joined, sound-joined}
 use Rattle.responder_rules.specs.Answer.{Given, asking, wantsInterleaved, savedTime, outputAfter, rowAfter, answerRefusal, answerOf}
 use Rattle.responder_rules.specs.Claim.{InRange}
 use Rattle.responder_rules.specs.Once.{askedCookie}
-use Rattle.responder_rules.proofs.Answers.{either}
 use Rattle.responder_rules.proofs.Accepting.{answerable, answer-written}
 
 -- the times of a sound row are of 64 bits
 pub sound-times : (row : List Record) → SoundRow row → (cookie : ℕ) → timeOf cookie row < 2 ^ 64
 unfolding timeOf
 sound-times [] g cookie = lit< tt
-sound-times (r ∷ row) g cookie = either (eqb (r .cookie) cookie) (r .time) (timeOf cookie row) (2 ^ 64) (g .0 .time) (sound-times row (g .1) cookie)
+sound-times (r ∷ row) g cookie = by-test (λ (n : ℕ). n < 2 ^ 64) (eqb (r .cookie) cookie) (λ e. g .0 .time) (λ e. sound-times row (g .1) cookie)
 
 -- so arguments that are in range are so with any sound row
 pub range-row : (g : Given) (row : List Record) → SoundRow row → InRange g [] → InRange g row

@@ -1,11 +1,12 @@
 -- A refused call changes nothing, and its number is one that concerns the call. Assumes nothing.
 use mathlib.Core.Path.{_≡_, refl, _∙_, subst⁻¹}
-use mathlib.Core.Bool.{Bool, true, false, cond, not, _||_}
+use mathlib.Core.Bool.{Bool, true, false, not, _||_}
 use mathlib.Core.List.{List}
 use Prim.Native.Nat.{ℕ}
 use lib.Dec.{eqb}
 use Rattle.header.specs.Header.{refusal}
 use Rattle.octets.specs.Among.{among}
+use Rattle.octets.proofs.Tests.{by-test}
 use Rattle.chain.proofs.Refusals.{sound-number}
 use Rattle.store_rules.specs.Row.{held, timeOf, rowOf, wrongSize, wrongStore, cleared, reportRefusal}
 use Rattle.responder_rules.specs.Answer.{Given, asking, wrongArguments, firstRefusal, wrongFresh, shortOutput, answerRefusal}
@@ -20,11 +21,6 @@ use Rattle.responder_rules.proofs.Reported.{report-refused, report-numb
 abbrev OneOf : List ℕ → ℕ → Type 0
 OneOf ms n = (n ≡ 0 → ⊥) → among n ms ≡ true
 
--- a test that gives a number of them, before others
-test-given : (ms : List ℕ) (b : Bool) (m n : ℕ) → OneOf ms m → OneOf ms n → OneOf ms (cond b m n)
-test-given ms true m n p q = p
-test-given ms false m n p q = q
-
 none : (ms : List ℕ) → OneOf ms 0
 none ms z = absurd (z refl)
 
@@ -33,17 +29,17 @@ unfolding answerRefusal
 answer-one g store out =
     let ms = refusalsOf (answer g out) in
     let sound = sound-number (OneOf ms) (none ms) (λ z. refl) (λ z. refl) (λ z. refl) (λ z. refl) (λ z. refl) (g .request) 3 in
-    let first = test-given ms (wrongArguments (g .filter) (g .information) (g .server .leap) (g .receive) (g .estimate)) 6 _ (λ z. refl) sound in
-    test-given ms (wrongStore store) 6 _ (λ z. refl)
-    (test-given ms (not (eqb (firstRefusal g) 0)) (firstRefusal g) _ first
-    (test-given ms (wrongFresh (asking g) (g .freshCookie) (rowOf store)) 8 _ (λ z. refl)
-    (test-given ms (shortOutput g out) 11 0 (λ z. refl) (none ms))))
+    let first : OneOf ms (firstRefusal g) = by-test (OneOf ms) (wrongArguments (g .filter) (g .information) (g .server .leap) (g .receive) (g .estimate)) (λ e z. refl) (λ e. sound) in
+    by-test (OneOf ms) (wrongStore store) (λ e z. refl) (λ e.
+    by-test (OneOf ms) (not (eqb (firstRefusal g) 0)) (λ e. first) (λ e.
+    by-test (OneOf ms) (wrongFresh (asking g) (g .freshCookie) (rowOf store)) (λ e z. refl) (λ e.
+    by-test (OneOf ms) (shortOutput g out) (λ e z. refl) (λ e. none ms))))
 
 report-one : (s : List ℕ) (c t : ℕ) → OneOf (refusalsOf (report c t)) (reportRefusal s c t)
 report-one s c t =
     let ms = refusalsOf (report c t) in
-    test-given ms (wrongStore s || eqb t 0) 6 _ (λ z. refl)
-    (test-given ms (not (held c (rowOf s)) || not (eqb (timeOf c (rowOf s)) 0)) 12 0 (λ z. refl) (none ms))
+    by-test (OneOf ms) (wrongStore s || eqb t 0) (λ e z. refl) (λ e.
+    by-test (OneOf ms) (not (held c (rowOf s)) || not (eqb (timeOf c (rowOf s)) 0)) (λ e z. refl) (λ e. none ms))
 
 -- ---- the calls
 

@@ -6,7 +6,7 @@ use Prim.Native.Nat.{ℕ, _<_, _^_}
 use native.Mathlib.Omega.{arith}
 use borrow.Author.Tests.{ne-eqb, eqb-true, eqb-false, not-false}
 use lib.Dec.{eqb}
-use Rattle.store_rules.specs.Row.{Record, held, timeOf, reported, storeOctets, sizeOf, rowOf, wrongSize, wrongStore, cleared, reportRefusal, reporting}
+use Rattle.store_rules.specs.Row.{Record, held, timeOf, withTime, storeOctets, sizeOf, rowOf, wrongSize, wrongStore, cleared, reportRefusal, reporting}
 use Rattle.octets.proofs.Tests.{or-none}
 use Rattle.store_rules.proofs.Stores.{Stores, right-size, store-written, stores-row, stores-size}
 use Rattle.store_rules.proofs.Kept.{length-reported, sound-reported}
@@ -60,13 +60,13 @@ module _ {s : List ℕ} {n : ℕ} {row : List Record} (w : Stores s n row) (c t 
   report-held = ap (held c) (sym (stores-row w)) ∙ reportable s c t e .in-row
 
   -- and gives it the time
-  pub report-result : reporting s c t ≡ (0, storeOctets n (reported c t row))
+  pub report-result : reporting s c t ≡ (0, storeOctets n (withTime c t row))
   unfolding reporting
   report-result = rw (e, stores-row w, stores-size w)
 
   -- the row stays sound and within its size
-  pub report-stores : t < 2 ^ 64 → Stores (storeOctets n (reported c t row)) n (reported c t row)
+  pub report-stores : t < 2 ^ 64 → Stores (storeOctets n (withTime c t row)) n (withTime c t row)
   report-stores small =
       let k = w .within in
       let l = length-reported c t row in
-      store-written n (reported c t row) (sound-reported c t row small (w .sound)) (omega arith) (w .low) (w .high)
+      store-written n (withTime c t row) (sound-reported c t row small (w .sound)) (omega arith) (w .low) (w .high)

@@ -3,9 +3,9 @@ use mathlib.Core.Path.{_≡_, refl, sym, subst, _∙_}
 use mathlib.Core.Bool.{Bool, true, false, cond}
 use mathlib.Core.List.{List, [], _∷_}
 use Prim.Native.Nat.{ℕ, _<_, _^_}
-use borrow.Author.Tests.{eq-eqb, ne-eqb, eqb-true, eqb-false}
+use borrow.Author.Tests.{eq-eqb, eqb-true, eqb-false}
 use lib.Dec.{eqb}
-use Rattle.store_rules.specs.Row.{Record, held, timeOf, reported, without, joined, sizeOf, wrongSize, wrongStore, cleared, reportRefusal}
+use Rattle.store_rules.specs.Row.{Record, held, timeOf, withTime, without, joined, sizeOf, wrongSize, wrongStore, cleared, reportRefusal}
 use Rattle.octets.proofs.Tests.{or-none}
 use Rattle.store_rules.proofs.Rows.{time-held}
 use Rattle.store_rules.proofs.Stores.{Stores, stores-right, stores-row, stores-size}
@@ -13,7 +13,7 @@ use Rattle.store_rules.proofs.Kept.{sound-without, without-gone, without-absent
 use Rattle.responder_rules.specs.Answer.{Given, asking, wantsInterleaved, savedTime, rowAfter, answerRefusal, answerOf}
 use Rattle.responder_rules.specs.Call.{Call, clear, report, answer, Responder, stepStore}
 use Rattle.responder_rules.specs.Claim.{InRange, Typed}
-use Rattle.responder_rules.specs.Once.{AllTyped, reached, askedCookie, Event, reports, sends, eventOf, events, eachSentOnce, Right, Once}
+use Rattle.responder_rules.specs.Once.{AllTyped, storeAfterCalls, askedCookie, Observed, reports, sends, observedOf, observations, eachSentOnce, Right, Once}
 use Rattle.responder_rules.proofs.Accepting.{answer-refused}
 use Rattle.responder_rules.proofs.Leaving.{is-saved, answer-result, answer-stores, fresh-new}
 use Rattle.responder_rules.proofs.Reported.{clear-result, clear-stores, report-refused, report-held, report-result, report-stores}
@@ -26,7 +26,7 @@ record Next (c : Call) (s : List ℕ) (n : ℕ) (unsent : List Record) : Type 0 
   pub unsent-after : List Record
   pub stores : Stores (stepStore c s .store) n row
   pub times : TimesUnsent unsent-after row
-  pub continues : (es : List Event) → eachSentOnce unsent (eventOf c (stepStore c s .refusal) (stepStore c s .out) ∷ es) ≡ eachSentOnce unsent-after es
+  pub continues : (es : List Observed) → eachSentOnce unsent (observedOf c (stepStore c s .refusal) (stepStore c s .out) ∷ es) ≡ eachSentOnce unsent-after es
 
 -- ---- each call
 
@@ -53,7 +53,7 @@ module _ {s : List ℕ} {n : ℕ} {unsent row : List Record} (w : Stores s n row
       go true q =
           let e = eqb-true (reportRefusal s c t) 0 q in
           record {
-            row = reported c t row;
+            row = withTime c t row;
             unsent-after = record { cookie = c; time = t } ∷ without c unsent;
             stores = rw (report-result w c t e) (report-stores w c t e small);
             times = unsent-reported c t (report-held w c t e) o;
@@ -139,10 +139,10 @@ module _ {s : List ℕ} {n : ℕ} {unsent row : List Record} (w : Stores s n row
 -- ---- all calls
 
 -- each time is sent at most once
-all-sent-once : {s : List ℕ} {n : ℕ} {unsent row : List Record} (cs : List Call) → AllTyped cs → Stores s n row → TimesUnsent unsent row → eachSentOnce unsent (events stepStore cs s) ≡ true
-unfolding eachSentOnce events
+all-sent-once : {s : List ℕ} {n : ℕ} {unsent row : List Record} (cs : List Call) → AllTyped cs → Stores s n row → TimesUnsent unsent row → eachSentOnce unsent (observations stepStore cs s) ≡ true
+unfolding eachSentOnce observations
 all-sent-once [] t w o = refl
-all-sent-once {s} (c ∷ cs) t w o = let p = next w o c (t .0) in p .continues (events stepStore cs (stepStore c s .store)) ∙ all-sent-once cs (t .1) (p .stores) (p .times)
+all-sent-once {s} (c ∷ cs) t w o = let p = next w o c (t .0) in p .continues (observations stepStore cs (stepStore c s .store)) ∙ all-sent-once cs (t .1) (p .stores) (p .times)
 
 -- a store that holds some row
 pub record Holds (s : List ℕ) (n : ℕ) : Type 0 where
@@ -157,10 +157,10 @@ pub step-holds : LeavesStores stepStore
 step-holds c s n t h = let p = next (h .stores) (unsent-row (h .row)) c t in record { row = p .row; stores = p .stores }
 
 -- and so does then a list of calls
-pub reached-holds : (step : Responder) → LeavesStores step → (cs : List Call) (s : List ℕ) (n : ℕ) → AllTyped cs → Holds s n → Holds (reached step cs s) n
-unfolding reached
-reached-holds step leaves [] s n t h = h
-reached-holds step leaves (c ∷ cs) s n t h = reached-holds step leaves cs (step c s .store) n (t .1) (leaves c s n (t .0) h)
+pub calls-hold : (step : Responder) → LeavesStores step → (cs : List Call) (s : List ℕ) (n : ℕ) → AllTyped cs → Holds s n → Holds (storeAfterCalls step cs s) n
+unfolding storeAfterCalls
+calls-hold step leaves [] s n t h = h
+calls-hold step leaves (c ∷ cs) s n t h = calls-hold step leaves cs (step c s .store) n (t .1) (leaves c s n (t .0) h)
 
 -- a cleared store holds an empty row
 pub cleared-holds : (s : List ℕ) → wrongSize s ≡ false → Holds (cleared s .1) (sizeOf s)
@@ -178,26 +178,14 @@ right-store {s} {n} {row} w = record {
 -- the claim
 pub once-only : Once
 once-only s h cs t =
-    let w = reached-holds stepStore step-holds cs (cleared s .1) (sizeOf s) t (cleared-holds s h) .stores in
+    let w = calls-hold stepStore step-holds cs (cleared s .1) (sizeOf s) t (cleared-holds s h) .stores in
     record {
       sent-once = all-sent-once cs t (clear-stores s h) (unsent-empty []);
       store-right = right-store w;
       record-left = λ g out r. interleaved-left w g r out;
     }
 
--- ---- what `eachSentOnce` rules out
-
--- a time that was reported once and is sent twice
-pub sent-twice : (c t u : ℕ) (es : List Event) → eachSentOnce [] (reports c t ∷ sends c t ∷ sends c u ∷ es) ≡ false
+-- `eachSentOnce` rules out a time that was reported once and is sent twice
+pub sent-twice : (c t u : ℕ) (es : List Observed) → eachSentOnce [] (reports c t ∷ sends c t ∷ sends c u ∷ es) ≡ false
 unfolding eachSentOnce held timeOf without
 sent-twice c t u es = rw (eq-eqb c c refl, eq-eqb t t refl)
-
--- a time that was reported for another cookie
-pub sent-to-other : (c d t : ℕ) (es : List Event) → (c ≡ d → ⊥) → eachSentOnce [] (reports c t ∷ sends d t ∷ es) ≡ false
-unfolding eachSentOnce held without
-sent-to-other c d t es h = rw (ne-eqb c d h)
-
--- a time that was not reported, as an estimate
-pub sent-unreported : (c t u : ℕ) (es : List Event) → (t ≡ u → ⊥) → eachSentOnce [] (reports c t ∷ sends c u ∷ es) ≡ false
-unfolding eachSentOnce held timeOf without
-sent-unreported c t u es h = rw (eq-eqb c c refl, ne-eqb t u h)

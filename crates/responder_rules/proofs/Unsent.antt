@@ -5,7 +5,7 @@ use mathlib.Core.List.{List, [], _∷_}
 use Prim.Native.Nat.{ℕ}
 use borrow.Author.Tests.{eqb-true, eqb-false}
 use lib.Dec.{eqb}
-use Rattle.store_rules.specs.Row.{Record, held, timeOf, reported, without, joined}
+use Rattle.store_rules.specs.Row.{Record, held, timeOf, withTime, without, joined}
 use Rattle.store_rules.proofs.Rows.{SoundRow, time-absent, time-held}
 use Rattle.store_rules.proofs.Kept.{time-without, without-gone, time-reported, time-reported-other}
 use Rattle.store_rules.proofs.Joins.{time-joined, time-joined-fresh}
@@ -43,12 +43,12 @@ unsent-without d {unsent} {row} g o = record {
 
 -- a time is reported
 pub unsent-reported : (d t : ℕ) {unsent row : List Record} → held d row ≡ true → TimesUnsent unsent row
-    → TimesUnsent (record { cookie = d; time = t } ∷ without d unsent) (reported d t row)
+    → TimesUnsent (record { cookie = d; time = t } ∷ without d unsent) (withTime d t row)
 unfolding timeOf
 unsent-reported d t {unsent} {row} h o = record { same-time = λ c z. go c z (eqb d c) refl }
   where
-    go : (c : ℕ) → (timeOf c (reported d t row) ≡ 0 → ⊥) → (b : Bool) → eqb d c ≡ b → cond b t (timeOf c (without d unsent)) ≡ timeOf c (reported d t row)
-    go c z true e = sym (ap (λ (k : ℕ). timeOf k (reported d t row)) (sym (eqb-true d c e)) ∙ time-reported d t row h)
+    go : (c : ℕ) → (timeOf c (withTime d t row) ≡ 0 → ⊥) → (b : Bool) → eqb d c ≡ b → cond b t (timeOf c (without d unsent)) ≡ timeOf c (withTime d t row)
+    go c z true e = sym (ap (λ (k : ℕ). timeOf k (withTime d t row)) (sym (eqb-true d c e)) ∙ time-reported d t row h)
     go c z false e =
         let n : c ≡ d → ⊥ = λ q. eqb-false d c e (sym q) in
         let r = time-reported-other d t c row n in

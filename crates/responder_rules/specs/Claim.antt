@@ -15,7 +15,7 @@ use Rattle.chain.specs.Content.{placed, contentsOf}
 use Rattle.field_role.specs.Role.{roleOf}
 use Rattle.chain.specs.declared.cursor.Field.{Field}
 use Rattle.field_role.specs.declared.Role.the-variants.{FilterRequest}
-use Rattle.store_rules.specs.Row.{Record, held, timeOf, reported, storeOctets, sizeOf, rowOf, wrongStore}
+use Rattle.store_rules.specs.Row.{Record, held, timeOf, withTime, storeOctets, sizeOf, rowOf, wrongStore}
 use Rattle.responder_rules.specs.Answer.{Given, Outcome, asking, wantsInterleaved, sentHeader, sentFields, rowAfter}
 use Rattle.responder_rules.specs.Call.{Call, clear, report, answer, Responder, stepStore}
 
@@ -118,7 +118,7 @@ pub record Reportable (c t : ℕ) (store : List ℕ) : Type 0 where
 pub record ReportExact (step : Responder) (c t : ℕ) (store : List ℕ) : Type 0 where
   pub only-reportable : step (report c t) store .refusal ≡ 0 → Reportable c t store
   pub all-reportable : Reportable c t store
-      → step (report c t) store ≡ record { refusal = 0; size = 0; out = []; store = storeOctets (sizeOf store) (reported c t (rowOf store)) }
+      → step (report c t) store ≡ record { refusal = 0; size = 0; out = []; store = storeOctets (sizeOf store) (withTime c t (rowOf store)) }
 
 abbrev pub EveryReportFor : Responder → Type 0
 EveryReportFor step = (c t : ℕ) (store : List ℕ) → ReportExact step c t store

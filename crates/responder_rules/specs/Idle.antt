@@ -8,7 +8,7 @@ use Rattle.responder_rules.specs.Answer.{Given, answerOf}
 use Rattle.responder_rules.specs.Call.{Call, clear, report, answer, lent, Responder, stepStore}
 use Rattle.responder_rules.specs.Claim.{EveryAnswerFor, EveryReportFor}
 use Rattle.responder_rules.specs.Refused.{RefusalsFor}
-use Rattle.responder_rules.specs.Once.{AllTyped, clearedBy, interleaved, events, eachSentOnce, OnceFor}
+use Rattle.responder_rules.specs.Once.{AllTyped, clearedBy, interleaved, observations, eachSentOnce, OnceFor}
 
 -- ---- refusing
 
@@ -50,7 +50,7 @@ answersFromOne (answer g out) s =
 
 -- of the once-only claim what the observer sees, alone
 abbrev pub SentOnceFor : Responder → Type 0
-SentOnceFor step = (s : List ℕ) → wrongSize s ≡ false → (cs : List Call) → AllTyped cs → eachSentOnce [] (events step cs (clearedBy step s)) ≡ true
+SentOnceFor step = (s : List ℕ) → wrongSize s ≡ false → (cs : List Call) → AllTyped cs → eachSentOnce [] (observations step cs (clearedBy step s)) ≡ true
 
 -- ---- the claims
 

@@ -18,9 +18,9 @@ AllTyped [] = Unit {0}
 AllTyped (c ∷ cs) = Typed c × AllTyped cs
 
 -- the store after calls
-unfoldable pub reached : Responder → List Call → List ℕ → List ℕ
-reached step [] s = s
-reached step (c ∷ cs) s = reached step cs (step c s .store)
+unfoldable pub storeAfterCalls : Responder → List Call → List ℕ → List ℕ
+storeAfterCalls step [] s = s
+storeAfterCalls step (c ∷ cs) s = storeAfterCalls step cs (step c s .store)
 
 -- the store once it is cleared
 abbrev pub clearedBy : Responder → List ℕ → List ℕ
@@ -36,29 +36,29 @@ askedCookie g = asking g .«server_cookie» .0
 abbrev pub interleaved : (refusal : ℕ) (out : List ℕ) → Bool
 interleaved refusal out = eqb refusal 0 && interleavedFlag (headerOf out .flags)
 
-pub data Event : Type 0 where
+pub data Observed : Type 0 where
   -- a clear
-  clears : Event
+  clears : Observed
   -- a report that was accepted
-  reports : (cookie time : ℕ) → Event
+  reports : (cookie time : ℕ) → Observed
   -- an interleaved answer: the server cookie of its request, and the transmit timestamp of the header that was written
-  sends : (cookie time : ℕ) → Event
+  sends : (cookie time : ℕ) → Observed
   -- any other call
-  other : Event
+  other : Observed
 
 -- a call by its arguments, its refusal number and its output afterwards
-abbrev pub eventOf : Call → (refusal : ℕ) (out : List ℕ) → Event
-eventOf clear refusal out = cond (eqb refusal 0) clears other
-eventOf (report c t) refusal out = cond (eqb refusal 0) (reports c t) other
-eventOf (answer g lent) refusal out = cond (interleaved refusal out) (sends (askedCookie g) (headerOf out .transmit)) other
+abbrev pub observedOf : Call → (refusal : ℕ) (out : List ℕ) → Observed
+observedOf clear refusal out = cond (eqb refusal 0) clears other
+observedOf (report c t) refusal out = cond (eqb refusal 0) (reports c t) other
+observedOf (answer g lent) refusal out = cond (interleaved refusal out) (sends (askedCookie g) (headerOf out .transmit)) other
 
-unfoldable pub events : Responder → List Call → List ℕ → List Event
-events step [] s = []
-events step (c ∷ cs) s = eventOf c (step c s .refusal) (step c s .out) ∷ events step cs (step c s .store)
+unfoldable pub observations : Responder → List Call → List ℕ → List Observed
+observations step [] s = []
+observations step (c ∷ cs) s = observedOf c (step c s .refusal) (step c s .out) ∷ observations step cs (step c s .store)
 
 -- `unsent` has the times that were reported and not sent since, for each cookie the last one. A sent time is the one that `unsent` has
 -- for the cookie of its request, and leaves it
-unfoldable pub eachSentOnce : (unsent : List Record) → List Event → Bool
+unfoldable pub eachSentOnce : (unsent : List Record) → List Observed → Bool
 eachSentOnce unsent [] = true
 eachSentOnce unsent (clears ∷ es) = eachSentOnce [] es
 eachSentOnce unsent (reports c t ∷ es) = eachSentOnce (record { cookie = c; time = t } ∷ without c unsent) es
@@ -77,11 +77,11 @@ pub record Right (n : ℕ) (s : List ℕ) : Type 0 where
 
 pub record OnceClaim (step : Responder) (s : List ℕ) (cs : List Call) : Type 0 where
   -- each reported time is sent at most once, and only in answer to a request with the cookie that it was reported for
-  pub sent-once : eachSentOnce [] (events step cs (clearedBy step s)) ≡ true
+  pub sent-once : eachSentOnce [] (observations step cs (clearedBy step s)) ≡ true
   -- the calls leave a right store, of the size that it had
-  pub store-right : Right (sizeOf s) (reached step cs (clearedBy step s))
+  pub store-right : Right (sizeOf s) (storeAfterCalls step cs (clearedBy step s))
   -- after an interleaved answer the cookie of its request is not in the store
-  pub record-left : (g : Given) (out : List ℕ) → InRange g [] → let w = step (answer g out) (reached step cs (clearedBy step s)) in
+  pub record-left : (g : Given) (out : List ℕ) → InRange g [] → let w = step (answer g out) (storeAfterCalls step cs (clearedBy step s)) in
       interleaved (w .refusal) (w .out) ≡ true → held (askedCookie g) (rowOf (w .store)) ≡ false
 
 -- for any octets of the right size and every list of calls

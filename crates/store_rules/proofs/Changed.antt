@@ -9,7 +9,7 @@ use borrow.Author.Tests.{ne-eqb, ltb-true, ltb-false, lt-ltb, le-ltb}
 use lib.Dec.{eqb, ltb}
 use lib.ListN.{length, drop, length-append, replicate-append-replicate}
 use Rattle.octets.specs.Number.{getAt, putAt}
-use Rattle.store_rules.specs.Row.{Record, held, timeOf, reported, without, joined, rowOctets, storeOctets, recordsOf}
+use Rattle.store_rules.specs.Row.{Record, held, timeOf, withTime, without, joined, rowOctets, storeOctets, recordsOf}
 use Rattle.store_rules.specs.Place.{indexOf, placeOf, removed, joinedOctets}
 use Rattle.store_rules.proofs.Rows.{SoundRow, unusedRecord, unusedRow, Parted, part-row, held-index, index-most, held-append, index-append, index-past, time-append}
 use Rattle.store_rules.proofs.Written.{store-row}
@@ -33,7 +33,7 @@ time-unused c (suc k) = go (eqb 0 c) (time-unused c k)
     go false e = e
 
 -- records and their octets are compared alike
-test-16 : (i n : ℕ) → ltb i n ≡ ltb (16 * i) (16 * n)
+pub test-16 : (i n : ℕ) → ltb i n ≡ ltb (16 * i) (16 * n)
 test-16 i n = go (ltb i n) refl
   where
     go : (b : Bool) → ltb i n ≡ b → b ≡ ltb (16 * i) (16 * n)
@@ -102,7 +102,7 @@ module _ {s : List ℕ} {n : ℕ} {row : List Record} (w : Stores s n row) where
       ∙ sym (store-row n (without c row) ∙ rw (p .removed, m, u)))
 
   -- its time is reported
-  pub place-reported : (c t : ℕ) → held c row ≡ true → putAt s (placeOf s c + 8) 8 t ≡ storeOctets n (reported c t row)
+  pub place-reported : (c t : ℕ) → held c row ≡ true → putAt s (placeOf s c + 8) 8 t ≡ storeOctets n (withTime c t row)
   place-reported c t h =
       let p = part-row c row h in
       let k = n - length row in
@@ -113,7 +113,7 @@ module _ {s : List ℕ} {n : ℕ} {row : List Record} (w : Stores s n row) where
       ∙ put-time (p .before) (p .found) (p .after ++ unusedRow k) t
       ∙ ap (λ (d : ℕ). rowOctets (p .before ++ (record { cookie = d; time = t } ∷ (p .after ++ unusedRow k)))) (p .its-cookie)
       ∙ ap rowOctets (sym (append-assoc (p .before) (r ∷ p .after) (unusedRow k)))
-      ∙ sym (store-row n (reported c t row) ∙ rw (p .changed t, ← l)))
+      ∙ sym (store-row n (withTime c t row) ∙ rw (p .changed t, ← l)))
 
 -- ---- a fresh cookie
 

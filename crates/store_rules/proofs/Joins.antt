@@ -1,11 +1,11 @@
 -- A fresh cookie joins a sound row: the row stays sound and within its size, and each cookie that is kept keeps its time. Assumes nothing.
 use mathlib.Core.Path.{_≡_, refl, sym, ap, _∙_}
-use mathlib.Core.Bool.{Bool, true, false, cond, _||_, or-true, true≢false, or-false}
+use mathlib.Core.Bool.{Bool, true, false, cond, _||_, true≢false, or-false}
 use mathlib.Core.Logic.{_⊎_, inl, inr}
 use mathlib.Core.List.{List, [], _∷_, _++_}
 use Prim.Native.Nat.{ℕ, _<_, _≤_, _^_}
 use native.Mathlib.Omega.{arith}
-use borrow.Author.Tests.{eq-eqb, ne-eqb, eqb-true, eqb-false, ltb-true}
+use borrow.Author.Tests.{ne-eqb, eqb-true, eqb-false, ltb-true}
 use lib.Dec.{eqb, ltb}
 use lib.ListN.{length, drop, length-append, length-drop}
 use Rattle.store_rules.specs.Row.{Record, held, timeOf, joined}
@@ -91,10 +91,6 @@ module _ (n c : ℕ) (row : List Record) where
       go true y p q = inl refl
       go false true p q = inr (sym (eqb-true c d q))
       go false false p q = absurd (true≢false (sym h ∙ held-either d ∙ rw (held-kept (ltb (length row) n) d row p, q)))
-
-  -- the fresh one is there
-  pub held-joined-fresh : held c (joined n c row) ≡ true
-  held-joined-fresh = held-either c ∙ rw (eq-eqb c c refl) (or-true (held c (kept (ltb (length row) n) row)))
 
   -- the fresh cookie has no time
   pub time-joined-fresh : held c row ≡ false → timeOf c (joined n c row) ≡ 0

@@ -7,7 +7,7 @@ use native.Mathlib.Omega.{arith}
 use borrow.Author.Tests.{eq-eqb, ne-eqb, eqb-true, eqb-false}
 use lib.Dec.{eqb}
 use lib.ListN.{length}
-use Rattle.store_rules.specs.Row.{Record, held, timeOf, reported, without}
+use Rattle.store_rules.specs.Row.{Record, held, timeOf, withTime, without}
 use Rattle.octets.proofs.Tests.{or-none}
 use Rattle.store_rules.proofs.Rows.{SoundRow, sound-before}
 
@@ -80,52 +80,52 @@ sound-without c (r ∷ row) g = go (eqb (r .cookie) c) refl (sound-without c row
 -- ---- a time is reported
 
 -- as many records
-pub length-reported : (c t : ℕ) (row : List Record) → length (reported c t row) ≡ length row
-unfolding reported
+pub length-reported : (c t : ℕ) (row : List Record) → length (withTime c t row) ≡ length row
+unfolding withTime
 length-reported c t [] = refl
 length-reported c t (r ∷ row) = go (eqb (r .cookie) c) (length-reported c t row)
   where
-    go : (b : Bool) → length (reported c t row) ≡ length row → length (cond b (record { cookie = c; time = t } ∷ row) (r ∷ reported c t row)) ≡ suc (length row)
+    go : (b : Bool) → length (withTime c t row) ≡ length row → length (cond b (record { cookie = c; time = t } ∷ row) (r ∷ withTime c t row)) ≡ suc (length row)
     go true e = refl
     go false e = ap suc e
 
 -- of the same cookies
-pub held-reported : (c t d : ℕ) (row : List Record) → held d (reported c t row) ≡ held d row
-unfolding held reported
+pub held-reported : (c t d : ℕ) (row : List Record) → held d (withTime c t row) ≡ held d row
+unfolding held withTime
 held-reported c t d [] = refl
 held-reported c t d (r ∷ row) = go (eqb (r .cookie) c) refl (held-reported c t d row)
   where
-    go : (b : Bool) → eqb (r .cookie) c ≡ b → held d (reported c t row) ≡ held d row → held d (cond b (record { cookie = c; time = t } ∷ row) (r ∷ reported c t row)) ≡ eqb (r .cookie) d || held d row
+    go : (b : Bool) → eqb (r .cookie) c ≡ b → held d (withTime c t row) ≡ held d row → held d (cond b (record { cookie = c; time = t } ∷ row) (r ∷ withTime c t row)) ≡ eqb (r .cookie) d || held d row
     go true q e = ap (λ (k : ℕ). eqb k d || held d row) (sym (eqb-true (r .cookie) c q))
     go false q e = ap (λ (b : Bool). eqb (r .cookie) d || b) e
 
 -- the cookie has the time
-pub time-reported : (c t : ℕ) (row : List Record) → held c row ≡ true → timeOf c (reported c t row) ≡ t
-unfolding held timeOf reported
+pub time-reported : (c t : ℕ) (row : List Record) → held c row ≡ true → timeOf c (withTime c t row) ≡ t
+unfolding held timeOf withTime
 time-reported c t [] h = absurd (false≢true h)
 time-reported c t (r ∷ row) h = go (eqb (r .cookie) c) refl (time-reported c t row) h
   where
-    go : (b : Bool) → eqb (r .cookie) c ≡ b → (held c row ≡ true → timeOf c (reported c t row) ≡ t) → b || held c row ≡ true → timeOf c (cond b (record { cookie = c; time = t } ∷ row) (r ∷ reported c t row)) ≡ t
+    go : (b : Bool) → eqb (r .cookie) c ≡ b → (held c row ≡ true → timeOf c (withTime c t row) ≡ t) → b || held c row ≡ true → timeOf c (cond b (record { cookie = c; time = t } ∷ row) (r ∷ withTime c t row)) ≡ t
     go true q f e = rw (eq-eqb c c refl)
     go false q f e = rw q (f e)
 
 -- each other has its own
-pub time-reported-other : (c t d : ℕ) (row : List Record) → (d ≡ c → ⊥) → timeOf d (reported c t row) ≡ timeOf d row
-unfolding timeOf reported
+pub time-reported-other : (c t d : ℕ) (row : List Record) → (d ≡ c → ⊥) → timeOf d (withTime c t row) ≡ timeOf d row
+unfolding timeOf withTime
 time-reported-other c t d [] h = refl
 time-reported-other c t d (r ∷ row) h = go (eqb (r .cookie) c) refl (time-reported-other c t d row h)
   where
-    go : (b : Bool) → eqb (r .cookie) c ≡ b → timeOf d (reported c t row) ≡ timeOf d row → timeOf d (cond b (record { cookie = c; time = t } ∷ row) (r ∷ reported c t row)) ≡ cond (eqb (r .cookie) d) (r .time) (timeOf d row)
+    go : (b : Bool) → eqb (r .cookie) c ≡ b → timeOf d (withTime c t row) ≡ timeOf d row → timeOf d (cond b (record { cookie = c; time = t } ∷ row) (r ∷ withTime c t row)) ≡ cond (eqb (r .cookie) d) (r .time) (timeOf d row)
     go true q e = rw (ne-eqb c d (λ p. h (sym p)), other r c d q h)
     go false q e = ap (cond (eqb (r .cookie) d) (r .time)) e
 
 -- the row stays sound
-pub sound-reported : (c t : ℕ) (row : List Record) → t < 2 ^ 64 → SoundRow row → SoundRow (reported c t row)
-unfolding reported
+pub sound-reported : (c t : ℕ) (row : List Record) → t < 2 ^ 64 → SoundRow row → SoundRow (withTime c t row)
+unfolding withTime
 sound-reported c t [] h g = tt
 sound-reported c t (r ∷ row) h g = go (eqb (r .cookie) c) refl (sound-reported c t row h (g .1))
   where
-    go : (b : Bool) → eqb (r .cookie) c ≡ b → SoundRow (reported c t row) → SoundRow (cond b (record { cookie = c; time = t } ∷ row) (r ∷ reported c t row))
+    go : (b : Bool) → eqb (r .cookie) c ≡ b → SoundRow (withTime c t row) → SoundRow (cond b (record { cookie = c; time = t } ∷ row) (r ∷ withTime c t row))
     go true q k =
         let e = eqb-true (r .cookie) c q in (
           record {

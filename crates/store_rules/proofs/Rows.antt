@@ -8,7 +8,7 @@ use native.Mathlib.Omega.{arith}
 use borrow.Author.Tests.{lt-ltb, eqb-true}
 use lib.Dec.{eqb, ltb, leb·suc-suc}
 use lib.ListN.{length, replicate}
-use Rattle.store_rules.specs.Row.{Record, held, timeOf, reported, without}
+use Rattle.store_rules.specs.Row.{Record, held, timeOf, withTime, without}
 pub use Rattle.store_rules.specs.Row.{unusedRecord}
 use Rattle.store_rules.specs.Place.{indexOf}
 pub use Rattle.store_rules.specs.Claim.{SoundRecord, SoundRow}
@@ -58,11 +58,11 @@ pub record Parted (c : ℕ) (rs : List Record) : Type 0 where
   pub its-cookie : found .cookie ≡ c
   pub its-time : timeOf c rs ≡ found .time
   pub removed : without c rs ≡ before ++ after
-  pub changed : (t : ℕ) → reported c t rs ≡ before ++ (record { cookie = c; time = t } ∷ after)
+  pub changed : (t : ℕ) → withTime c t rs ≡ before ++ (record { cookie = c; time = t } ∷ after)
 
 -- one record more in front
 part-more : (c : ℕ) (r : Record) (rs : List Record) → (held c rs ≡ true → Parted c rs) → (b : Bool) → eqb (r .cookie) c ≡ b → b || held c rs ≡ true → Parted c (r ∷ rs)
-unfolding indexOf timeOf without reported
+unfolding indexOf timeOf without withTime
 part-more c r rs f true q h = record {
   before = [];
   found = r;

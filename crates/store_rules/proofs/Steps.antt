@@ -6,7 +6,7 @@ use Prim.Native.Nat.{ℕ, _+_, _<_, _≤_, _^_}
 use native.Mathlib.Omega.{arith}
 use lib.ListN.{length}
 use Rattle.octets.specs.Number.{putAt}
-use Rattle.store_rules.specs.Row.{Record, held, without, reported, joined}
+use Rattle.store_rules.specs.Row.{Record, held, without, withTime, joined}
 use Rattle.store_rules.specs.Place.{placeOf, removed, joinedOctets}
 use Rattle.store_rules.proofs.Stores.{Stores, store-written}
 use Rattle.store_rules.proofs.Changed.{place-removed, place-reported, place-joined}
@@ -21,10 +21,10 @@ module _ {s : List ℕ} {n : ℕ} {row : List Record} (w : Stores s n row) (c : 
       rw (place-removed w c h) (store-written n (without c row) (sound-without c row (w .sound)) l (w .low) (w .high))
 
   -- a time was reported
-  pub stores-reported : (t : ℕ) → t < 2 ^ 64 → held c row ≡ true → Stores (putAt s (placeOf s c + 8) 8 t) n (reported c t row)
+  pub stores-reported : (t : ℕ) → t < 2 ^ 64 → held c row ≡ true → Stores (putAt s (placeOf s c + 8) 8 t) n (withTime c t row)
   stores-reported t k h =
-      let l : length (reported c t row) ≤ n = omega (arith, length-reported c t row, w .within) in
-      rw (place-reported w c t h) (store-written n (reported c t row) (sound-reported c t row k (w .sound)) l (w .low) (w .high))
+      let l : length (withTime c t row) ≤ n = omega (arith, length-reported c t row, w .within) in
+      rw (place-reported w c t h) (store-written n (withTime c t row) (sound-reported c t row k (w .sound)) l (w .low) (w .high))
 
   -- a fresh cookie joined
   pub stores-joined : (c ≡ 0 → ⊥) → c < 2 ^ 64 → held c row ≡ false → Stores (joinedOctets s c) n (joined n c row)

@@ -26,7 +26,7 @@ unused-is r h =
     λ i. record { cookie = a i; time = b i }
 
 -- a row of nothing else
-all-unused-are : (rs : List Record) → allUnused rs ≡ true → rs ≡ unusedRow (length rs)
+pub all-unused-are : (rs : List Record) → allUnused rs ≡ true → rs ≡ unusedRow (length rs)
 unfolding allUnused
 all-unused-are [] h = refl
 all-unused-are (r ∷ rs) h =
@@ -36,7 +36,7 @@ all-unused-are (r ∷ rs) h =
     λ i. a i ∷ b i
 
 -- a cookie that isn't held isn't held by the used ones
-held-used : (c : ℕ) (rs : List Record) → held c rs ≡ false → held c (usedOf rs) ≡ false
+pub held-used : (c : ℕ) (rs : List Record) → held c rs ≡ false → held c (usedOf rs) ≡ false
 unfolding held usedOf
 held-used c [] h = refl
 held-used c (r ∷ rs) h = go (unused r) (eqb (r .cookie) c) refl (held-used c rs) h

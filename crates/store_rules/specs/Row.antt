@@ -22,9 +22,9 @@ timeOf c [] = 0
 timeOf c (r ∷ row) = cond (eqb (r .cookie) c) (r .time) (timeOf c row)
 
 -- a report gives a stored cookie its time
-unfoldable pub reported : ℕ → ℕ → List Record → List Record
-reported c t [] = []
-reported c t (r ∷ row) = cond (eqb (r .cookie) c) (record { cookie = c; time = t } ∷ row) (r ∷ reported c t row)
+unfoldable pub withTime : ℕ → ℕ → List Record → List Record
+withTime c t [] = []
+withTime c t (r ∷ row) = cond (eqb (r .cookie) c) (record { cookie = c; time = t } ∷ row) (r ∷ withTime c t row)
 
 -- the record of a cookie leaves the row
 unfoldable pub without : ℕ → List Record → List Record
@@ -95,11 +95,11 @@ unfoldable pub wrongStore : List ℕ → Bool
 wrongStore s = wrongRow (wrongSize s) (recordsOf s)
 
 -- clearing checks the size only: the refusal, and the store after it, whatever holds the row
-abbrev pub clearing : {S : Type 0} → (size : Bool) (before after : S) → ℕ × S
-clearing size before after = cond size (6, before) (0, after)
+abbrev pub clearingTo : {S : Type 0} → (size : Bool) (before after : S) → ℕ × S
+clearingTo size before after = cond size (6, before) (0, after)
 
 unfoldable pub cleared : List ℕ → ℕ × List ℕ
-cleared s = clearing (wrongSize s) s (storeOctets (sizeOf s) [])
+cleared s = clearingTo (wrongSize s) s (storeOctets (sizeOf s) [])
 
 -- a report of a cookie's time: 6 for the store or a time 0; 12 where the cookie is not in the row or has its time
 abbrev pub refusedReport : (wrong : Bool) (row : List Record) (c t : ℕ) → ℕ
@@ -112,8 +112,8 @@ abbrev pub reportRefusal : List ℕ → ℕ → ℕ → ℕ
 reportRefusal s c t = refusedReport (wrongStore s) (rowOf s) c t
 
 -- a refusal leaves what was there, whatever holds the row
-abbrev pub unlessRefused : {S : Type 0} → (refusal : ℕ) (before after : S) → ℕ × S
-unlessRefused refusal before after = cond (eqb refusal 0) (0, after) (refusal, before)
+abbrev pub keptIfRefused : {S : Type 0} → (refusal : ℕ) (before after : S) → ℕ × S
+keptIfRefused refusal before after = cond (eqb refusal 0) (0, after) (refusal, before)
 
 unfoldable pub reporting : List ℕ → ℕ → ℕ → ℕ × List ℕ
-reporting s c t = unlessRefused (reportRefusal s c t) s (storeOctets (sizeOf s) (reported c t (rowOf s)))
+reporting s c t = keptIfRefused (reportRefusal s c t) s (storeOctets (sizeOf s) (withTime c t (rowOf s)))

@@ -45,10 +45,10 @@ use denote.Exit.{yes}
 use Rattle.header.specs.declared.ServerCookie.{ServerCookie}
 use Rattle.header.proofs.ServerCookie as Ck
 use Rattle.header.proofs.ServerCookie.Laws as Ck′
-use Rattle.records.specs.Records.{recordsIn}
+use Rattle.records.specs.Records.{recordsIn, placeFrom}
 use Rattle.records.specs.declared.Record.{Record as Slot}
 use Rattle.records.proofs.Record as T
-use Rattle.records.proofs.Slots.{none, placeFrom, place-here, place-next, place-end}
+use Rattle.records.proofs.Slots.{none, place-here, place-next, place-end}
 use Rattle.records.proofs.Walk.{holds, fails, whiles, ifs, word, shared, fits-place, at-list, Sees, Fractured, sees-twice, cookie-fits, IsCookie, takes, returns-it, looks-into}
 use Rattle.records.proofs.find.Key.{name as #records·find}
 use Rattle.records.proofs.find as find

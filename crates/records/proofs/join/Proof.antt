@@ -43,7 +43,7 @@ use Rattle.header.specs.declared.ServerCookie.{ServerCookie}
 use Rattle.header.proofs.ServerCookie as Ck
 use Rattle.header.proofs.ServerCookie.Laws as Ck′
 use Rattle.store_rules.specs.Row.{Record}
-use Rattle.records.specs.Records.{recordOf, recordsIn, leaveRecords, joinRecords}
+use Rattle.records.specs.Records.{recordOf, recordsIn, leaveRecords, joinRecords, placeFrom}
 use Rattle.records.specs.Value.{joinPlaceFor}
 use Rattle.records.specs.declared.Record.{Record as Slot}
 use Rattle.records.specs.declared.value.JoinPlace.{JoinPlace}
@@ -51,7 +51,7 @@ use Rattle.records.proofs.Record as T
 use Rattle.records.proofs.Record.Laws as T′
 use Rattle.records.proofs.value.JoinPlace as S
 use Rattle.records.proofs.value.JoinPlace.Laws as S′
-use Rattle.records.proofs.Slots.{none, length-in, get-in, set-in, placeFrom}
+use Rattle.records.proofs.Slots.{none, length-in, get-in, set-in}
 use Rattle.records.proofs.Joining.{withCookie, join-placed, join-none}
 use Rattle.records.proofs.Walk.{ifs, word, lent, fits-place, at-list, Has, held-owns, IsCookie, typed, takes, puts-it, Asks, calls-plain, plain-pre}
 use Rattle.records.proofs.Finding.{Finds, calls-find}

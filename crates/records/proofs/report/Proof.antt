@@ -43,7 +43,7 @@ use denote.Exit.{yes}
 use Rattle.header.specs.declared.ServerCookie.{ServerCookie}
 use Rattle.header.proofs.ServerCookie as Ck
 use Rattle.header.proofs.ServerCookie.Laws as Ck′
-use Rattle.records.specs.Records.{recordsIn, wrongRecords, reportRecords}
+use Rattle.records.specs.Records.{recordsIn, wrongRecords, reportRecords, placeFrom}
 use Rattle.records.specs.Value.{reportedOne, absentRefusal}
 use Rattle.records.specs.declared.Record.{Record as Slot}
 use Rattle.records.specs.declared.value.Report.{Report}
@@ -51,7 +51,7 @@ use Rattle.records.proofs.Record as T
 use Rattle.records.proofs.Record.Laws as T′
 use Rattle.records.proofs.value.Report as R
 use Rattle.records.proofs.value.Report.Laws as R′
-use Rattle.records.proofs.Slots.{none, length-in, placeFrom}
+use Rattle.records.proofs.Slots.{none, length-in}
 use Rattle.records.proofs.Reporting.{report-absent, report-found}
 use Rattle.records.proofs.Walk.{ifs, word, lent, fits-place, at-list, vals, Sees, Has, held-owns, IsRecord, IsCookie, typed, takes, puts-it, Asks, calls-ensured, calls-plain, plain-pre, slice-pre}
 use Rattle.records.proofs.Finding.{Finds, calls-find}

@@ -36,7 +36,7 @@ use denote.Triple.Table.{entered}
 use denote.Triple.Walked.{says, Stays, stay-none-slice, stay-none, walkOf, goes-none-slice, goes-none, Walks, ends-at, walked, walk-meets}
 use denote.Exit.{yes}
 use Rattle.store_rules.specs.Row.{Record}
-use Rattle.records.specs.Records.{recordsIn, unusedRecord}
+use Rattle.records.specs.Records.{recordsIn, unusedRecord, timeAt}
 use Rattle.records.specs.declared.Record.{Record as Slot}
 use Rattle.records.proofs.Record as T
 use Rattle.records.proofs.Slots.{none, length-in, get-in}
@@ -62,7 +62,7 @@ module _ {M : Type 1} (𝓤 : URA M) (H : Heap 𝓤) (A : Atoms 𝓤) (W : Given
   abbrev Post : Val → SProp 𝓤
   Post = walkOf 𝓤 H A time.ended stayed (time.clauses 𝓤 H A mem run) .post (((κ, tt), (q, tt), tt, x, at), tt)
 
-  exits : (r : ℕ) → r < 2 ^ 64 → r ≡ getD (recordsIn ys) i unusedRecord .time → ent 𝓤 (⋆ 𝓤 H A (‵ (flft κ q) ∷ ‵ (Sees κ b o γ ys) ∷ [])) (Post (vint w64 r))
+  exits : (r : ℕ) → r < 2 ^ 64 → r ≡ timeAt (recordsIn ys) i → ent 𝓤 (⋆ 𝓤 H A (‵ (flft κ q) ∷ ‵ (Sees κ b o γ ys) ∷ [])) (Post (vint w64 r))
   exits r g e =
       qed W (‵ (flft κ q) ∷ ‵ (Sees κ b o γ ys) ∷ []) ∵
       suffices ! _ (ends-at 𝓤 H A time.ended stayed (time.clauses 𝓤 H A mem run) W (((κ, tt), (q, tt), tt, x, at), tt) (vint w64 r) r (tt, (tt, tt)) (tt, (tt, tt))) $ says ! e $
@@ -70,7 +70,7 @@ module _ {M : Type 1} (𝓤 : URA M) (H : Heap 𝓤) (A : Atoms 𝓤) (W : Given
       frame ! $ frame ! $ owned ! u64 (Is u64) (uint-makes 𝓤 H A W w64) r _ (refl, g) $ done !
 
   -- past the end the time is 0
-  past : n ≤ i → 0 ≡ getD (recordsIn ys) i unusedRecord .time
+  past : n ≤ i → 0 ≡ timeAt (recordsIn ys) i
   past l = ap (λ (r : Record). r .time) (sym (List·getD-eq-default (recordsIn ys) unusedRecord {n = i} (rw (length-in ys) l)))
 
   module _ (C : Calls 𝓤 H) (Λ : Loops 𝓤 H) where

@@ -43,7 +43,7 @@ use denote.Triple.Statement.{Contract, Triple}
 use denote.Triple.Table.{entered, cited}
 use denote.Triple.Walked.{says, Stays, stay-none-slice, walkOf, goes-none-slice, Walks, ends-at, walked, walk-meets}
 use denote.Exit.{yes}
-use Rattle.records.specs.Records.{recordsIn, wrongCount, wrongRecords}
+use Rattle.records.specs.Records.{recordsIn, wrongCount, wrongRecords, placeFrom}
 use Rattle.records.specs.Value.{seenAfter}
 use Rattle.records.specs.declared.Record.{Record as Slot}
 use Rattle.records.specs.declared.value.Seen.{Seen}
@@ -51,7 +51,7 @@ use Rattle.records.proofs.Record as T
 use Rattle.records.proofs.Record.Laws as T′
 use Rattle.records.proofs.value.Seen as S
 use Rattle.records.proofs.value.Seen.Laws as S′
-use Rattle.records.proofs.Slots.{none, length-in, placeFrom}
+use Rattle.records.proofs.Slots.{none, length-in}
 use Rattle.records.proofs.Judging.{verdict, wrong-by-count, verdict-first, verdict-next, verdict-end}
 use Rattle.records.proofs.Walk.{holds, fails, whiles, ifs, word, shared, fits-place, at-list, Sees, Fractured, sees-twice, cookie-of, typed, takes, returns-it, looks-into, Asks, calls-plain, plain-pre}
 use Rattle.records.proofs.Finding.{Finds, calls-find}

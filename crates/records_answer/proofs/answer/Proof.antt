@@ -57,12 +57,12 @@ use Rattle.responder_rules.proofs.Answered as An
 use Rattle.responder_rules.proofs.Answered.Laws as An′
 use Rattle.records_answer.specs.Step.{stepped}
 use Rattle.records_answer.specs.Answer.{checkedRequest, stepOf, outcome, answerRecords}
-use Rattle.records_answer.specs.Sent.{Ready, sentBy}
-use Rattle.records_answer.specs.declared.Step.{Step}
+use Rattle.records_answer.specs.Sent.{Ready, answerSent}
+use Rattle.records_answer.specs.declared.AnswerStep.{AnswerStep}
 use Rattle.records_answer.proofs.Deciding.{ready, answered}
-use Rattle.records_answer.proofs.Values.{IsReading, IsServer, IsAnswered, IsStep, leap-fits}
-use Rattle.records_answer.proofs.Step as St
-use Rattle.records_answer.proofs.Step.Laws as St′
+use Rattle.records_answer.proofs.Values.{IsReading, IsServer, IsAnswered, IsAnswerStep, leap-fits}
+use Rattle.records_answer.proofs.AnswerStep as St
+use Rattle.records_answer.proofs.AnswerStep.Laws as St′
 use Rattle.records_answer.proofs.datagram.checked as checked
 use Rattle.records_answer.proofs.datagram.checked.Symbol as checked-def
 use Rattle.records_answer.proofs.datagram.checked.Symbol.{name as #checked}
@@ -193,7 +193,7 @@ module _ {M : Type 1} (𝓤 : URA M) (H : Heap 𝓤) (A : Atoms 𝓤) (W : Given
   stepping = (((κr, tt), (qr, tt), tt, (rs, (checkedRequest g, (shortOutput g (out .now), (ck, tt)))), (slice-vals rs, (Rd′.lowered (checkedRequest g) ∷ [], (vbool (shortOutput g (out .now)) ∷ [], (Ck′.lowered ck ∷ [], tt))))), tt)
 
   -- what `sent` is asked, after a step
-  abbrev sending : Step → Sends 𝓤 H A mem run .Ghost
+  abbrev sending : AnswerStep → Sends 𝓤 H A mem run .Ghost
   sending s = (
     (
       (κq, (κf, (κi, (κo, tt)))),
@@ -205,7 +205,7 @@ module _ {M : Type 1} (𝓤 : URA M) (H : Heap 𝓤) (A : Atoms 𝓤) (W : Given
     tt,
   )
 
-  sends-pre : (s : Step) → IsStep s → IsReading (checkedRequest g) → (s .refusal ≡ 0 → Ready (checkedRequest g) g (out .now))
+  sends-pre : (s : AnswerStep) → IsAnswerStep s → IsReading (checkedRequest g) → (s .refusal ≡ 0 → Ready (checkedRequest g) g (out .now))
       → ent 𝓤 (⋆ 𝓤 H A (‵ (flft κq qq) ∷ ‵ (flft κf qf) ∷ ‵ (flft κi qi) ∷ ‵ (flft κo qo) ∷ ‵ Own1 ∷ ‵ Own2 ∷ ‵ Own3 ∷ ‵ Own4 ∷ [])) (Sends 𝓤 H A mem run .pre (sending s))
   sends-pre s gs₁ gd φ =
       qed W (‵ (flft κq qq) ∷ ‵ (flft κf qf) ∷ ‵ (flft κi qi) ∷ ‵ (flft κo qo) ∷ ‵ Own1 ∷ ‵ Own2 ∷ ‵ Own3 ∷ ‵ Own4 ∷ []) ∵ says ! φ $ nothing ! $
@@ -255,7 +255,7 @@ module _ {M : Type 1} (𝓤 : URA M) (H : Heap 𝓤) (A : Atoms 𝓤) (W : Given
       move ! (10 ∷ 9 ∷ 8 ∷ 11 ∷ 0 ∷ 2 ∷ 4 ∷ 12 ∷ []) $ group ! 8 $ use1 W (raw (Sends 𝓤 H A mem run .pre (sending s))) (sends-pre s gs₁ (subst IsReading ed gd) (ready g (recordsIn (rs .now)) (out .now) s (recordsIn (z .0)) es)) $
       calls-giving ! (fmOf 𝓤 H (W .laws) 𝓣) (Sends 𝓤 H A mem run) (known .knows-sent) (sending s) An.the-row An′.lowered (An′.lowers .val-is) (‵ (flft κq qq) ⊛ ‵ (flft κf qf) ⊛ ‵ (flft κi qi) ⊛ ‵ (flft κo qo) ⊛ ‵ ftrue) (Unit {0} × (Unit {0} × (Unit {0} × (Unit {0} × (Unit {0} × (Unit {0} × (Unit {0} × (Unit {0} × (Unit {0} × (List ℕ × Unit {0}))))))))))
       (λ y. fsep ftrue (fsep ftrue (fsep ftrue (fsep ftrue (fsep ftrue (fsep ftrue (fsep ftrue (fsep ftrue (fsep ftrue (fsep (fsep (finally u8 (out .name) (y .1 .1 .1 .1 .1 .1 .1 .1 .1 .0)) (feq ℕ (length (y .1 .1 .1 .1 .1 .1 .1 .1 .1 .0)) (length (out .now)))) ftrue))))))))))
-      (λ r y. outcome r (y .1 .1 .1 .1 .1 .1 .1 .1 .1 .0) [] ≡ sentBy g s (out .now)) (λ v. id⊢ 𝓤 _) (and-then ! (load ! (from ! (stop !)) (look ! 18 refl)) (and-then ! (load ! (from ! (stop !)) (look ! 22 refl)) (and-then ! (load ! (from ! (stop !)) (look ! 38 refl)) (and-then ! (load ! (from ! (stop !)) (look ! 36 refl)) (and-then ! (load ! (from ! (stop !)) (look ! 34 refl)) (and-then ! (load ! (from ! (stop !)) (look ! 32 refl)) (and-then ! (load ! (from ! (stop !)) (look ! 30 refl)) (and-then ! (load ! (from ! (stop !)) (look ! 28 refl)) (and-then ! (load ! (from ! (stop !)) (look ! 26 refl)) (and-then ! (load ! (from ! (stop !)) (look ! 6 refl)) (no-more !))))))))))) (λ r is y er.
+      (λ r y. outcome r (y .1 .1 .1 .1 .1 .1 .1 .1 .1 .0) [] ≡ answerSent g s (out .now)) (λ v. id⊢ 𝓤 _) (and-then ! (load ! (from ! (stop !)) (look ! 18 refl)) (and-then ! (load ! (from ! (stop !)) (look ! 22 refl)) (and-then ! (load ! (from ! (stop !)) (look ! 38 refl)) (and-then ! (load ! (from ! (stop !)) (look ! 36 refl)) (and-then ! (load ! (from ! (stop !)) (look ! 34 refl)) (and-then ! (load ! (from ! (stop !)) (look ! 32 refl)) (and-then ! (load ! (from ! (stop !)) (look ! 30 refl)) (and-then ! (load ! (from ! (stop !)) (look ! 28 refl)) (and-then ! (load ! (from ! (stop !)) (look ! 26 refl)) (and-then ! (load ! (from ! (stop !)) (look ! 6 refl)) (no-more !))))))))))) (λ r is y er.
       split ! $ move ! (1 ∷ []) $ split ! $ move ! (1 ∷ []) $ split ! $ move ! (1 ∷ []) $ split ! $ move ! (1 ∷ []) $ drop ! $
       move ! (4 ∷ []) $ fsplit ! $ drop ! $ fsplit ! $ drop ! $ fsplit ! $ drop ! $ fsplit ! $ drop ! $ fsplit ! $ drop ! $ fsplit ! $ drop ! $ fsplit ! $ drop ! $ fsplit ! $ drop ! $ fsplit ! $ drop ! $ fsplit ! $ fsplit ! $ move ! (1 ∷ []) $ feqL ! (λ e₂. move ! (1 ∷ []) $ drop ! $
       -- [the last octets; the tokens, of the output first; what is owned of the shared slices; the last records; their token; _18; …]

@@ -3,7 +3,9 @@ use mathlib.Core.Path.{sym, ap, _∙_}
 use Prim.Native.Nat.{ℕ, _+_}
 use native.Mathlib.Omega.{arith}
 use Rattle.octets.specs.Number.{Octets, getAt}
-use Rattle.responder.proofs.Keeping.{time-there, place-most}
+use Rattle.store_rules.proofs.Stores.{store-read}
+use Rattle.store_rules.proofs.Changed.{place-most}
+use Rattle.responder.proofs.Keeping.{time-there}
 use borrow.Author.Needs.{needs}
 use Rattle.responder.proofs.saved.time.Statement.{statement}
 use Rattle.responder.proofs.saved.time.Tie as tie
@@ -19,7 +21,7 @@ add-get64 c =
     let known = c .before .before .before in
     let start = known .before in
     let b : Octets (start .args .store .now) = λ i. omega (arith, known .shared-slice-known .given i) in
-    let most = place-most (start .args .store .now) b (start .pre) (start .args .asked .«server_cookie» .0) in
+    let most = place-most (store-read (start .args .store .now) b (start .pre)) (start .args .asked .«server_cookie» .0) in
     omega (arith, c .find .ensures, start .good .0)
 
 get64-requires : tie.Need-get64-requires
