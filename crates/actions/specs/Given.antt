@@ -2,7 +2,7 @@
 use mathlib.Core.List.{List}
 use Prim.Native.Nat.{ℕ}
 use Rattle.words.specs.Line.{numberAt, bitsAt, signedAt, octetsAt}
-use Rattle.responder_rules.specs.Answer.{Given}
+use Rattle.responder_rules.specs.Answer.{Given, given}
 use Rattle.responder_rules.specs.declared.Server.{Server}
 
 -- the server's values, from the fifth word on
@@ -21,15 +21,7 @@ serverOf line = record {
 
 -- the second, third and fourth word, and octets
 abbrev pub givenFrom : (line request filter information : List ℕ) → Given
-givenFrom line request filter information = record {
-  request = request;
-  receive = numberAt line 2;
-  estimate = numberAt line 3;
-  freshCookie = numberAt line 4;
-  server = serverOf line;
-  filter = filter;
-  information = information;
-}
+givenFrom line request filter information = given request (numberAt line 2) (numberAt line 3) (numberAt line 4) (serverOf line) filter information
 
 -- the octets are the first, the fourteenth and the fifteenth word
 abbrev pub givenOf : List ℕ → Given

@@ -7,7 +7,7 @@ use responder_rules::Server;
 ghost use mathlib.Core.Path.{_≡_};
 ghost use mathlib.Core.List.{[]};
 ghost use Rattle.header.specs.Header.{headerOf, reading};
-ghost use Rattle.responder_rules.specs.Answer.{argumentsRefusal};
+ghost use Rattle.responder_rules.specs.Answer.{given, argumentsRefusal};
 ghost use Rattle.records_answer.specs.Answer.{outcome};
 ghost use Rattle.records_answer.specs.Sent.{Ready, answerSent};
 
@@ -43,24 +43,11 @@ pub(crate) fn sent(
     information: &[u8],
     out: &mut [u8],
 ) -> Answered
-    requires { ⌜ ((step .refusal ≡ 0) → Ready checked (record {
-      request = now request;
-      receive = receive;
-      estimate = estimate;
-      freshCookie = «fresh_cookie» .0;
-      server = server;
-      filter = now filter;
-      information = now information;
-    }) (now out)) ⌝ }
-    ensures { λ r. ⌜ outcome r (now (out .exit)) [] ≡ answerSent (record {
-      request = now (request .entry);
-      receive = receive;
-      estimate = estimate;
-      freshCookie = «fresh_cookie» .0;
-      server = server;
-      filter = now (filter .entry);
-      information = now (information .entry);
-    }) step (now (out .entry)) ⌝ }
+    requires { ⌜ ((step .refusal ≡ 0)
+        → Ready checked (given (now request) receive estimate («fresh_cookie» .0) server (now filter) (now information)) (now out)) ⌝ }
+    ensures { λ r. ⌜ outcome r (now (out .exit)) []
+        ≡ answerSent (given (now (request .entry)) receive estimate («fresh_cookie» .0) server (now (filter .entry)) (now (information .entry)))
+        step (now (out .entry)) ⌝ }
 {
     let number = step.refusal;
     if number != 0 {

@@ -8,6 +8,7 @@ use records::Record;
 pub use responder_rules::Answered;
 pub use responder_rules::Server;
 ghost use mathlib.Core.Path.{_≡_};
+ghost use Rattle.responder_rules.specs.Answer.{given};
 ghost use Rattle.records.specs.Records.{recordsIn};
 ghost use Rattle.records_answer.specs.Step.{stepped, answerStep};
 ghost use Rattle.records_answer.specs.Answer.{outcome, answerRecords};
@@ -64,15 +65,9 @@ pub fn answer(
     information: &[u8],
     out: &mut [u8],
 ) -> Answered
-    ensures { λ r. ⌜ outcome r (now (out .exit)) (recordsIn (now (records .exit))) ≡ answerRecords (record {
-      request = now (request .entry);
-      receive = receive;
-      estimate = estimate;
-      freshCookie = «fresh_cookie» .0;
-      server = server;
-      filter = now (filter .entry);
-      information = now (information .entry);
-    }) (recordsIn (now (records .entry))) (now (out .entry)) ⌝ }
+    ensures { λ r. ⌜ outcome r (now (out .exit)) (recordsIn (now (records .exit)))
+        ≡ answerRecords (given (now (request .entry)) receive estimate («fresh_cookie» .0) server (now (filter .entry)) (now (information .entry)))
+        (recordsIn (now (records .entry))) (now (out .entry)) ⌝ }
 {
     let checked = datagram::checked(request, filter, information, server.leap, receive, estimate);
     let short = out.len() < request.len();

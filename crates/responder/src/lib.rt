@@ -13,7 +13,7 @@ ghost use lib.ListN.{length};
 ghost use Rattle.header.specs.Header.{headerOctets};
 ghost use Rattle.chain.specs.Chain.{soundRefusal};
 ghost use Rattle.chain.specs.Content.{chainOctets};
-ghost use Rattle.responder_rules.specs.Answer.{answerFields, argumentsRefusal, outcome, answerOf};
+ghost use Rattle.responder_rules.specs.Answer.{given, answerFields, argumentsRefusal, outcome, answerOf};
 
 // What the arguments and the request are refused by: 6, then 1 to 5; 0 if by nothing.
 pub fn check(
@@ -60,15 +60,9 @@ pub fn answer(
     information: &[u8],
     out: &mut [u8],
 ) -> Answered
-    ensures { λ r. ⌜ outcome r (now (out .exit)) (now (store .exit)) ≡ answerOf (record {
-      request = now (request .entry);
-      receive = receive;
-      estimate = estimate;
-      freshCookie = «fresh_cookie» .0;
-      server = server;
-      filter = now (filter .entry);
-      information = now (information .entry);
-    }) (now (store .entry)) (now (out .entry)) ⌝ }
+    ensures { λ r. ⌜ outcome r (now (out .exit)) (now (store .exit))
+        ≡ answerOf (given (now (request .entry)) receive estimate («fresh_cookie» .0) server (now (filter .entry)) (now (information .entry)))
+        (now (store .entry)) (now (out .entry)) ⌝ }
 {
     if store_check::wrong(store) {
         return Answered::Refused(6);

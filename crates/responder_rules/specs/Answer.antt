@@ -28,6 +28,17 @@ pub record Given : Type 0 where
   pub filter : List ℕ
   pub information : List ℕ
 
+abbrev pub given : (request : List ℕ) (receive estimate freshCookie : ℕ) → Server → (filter information : List ℕ) → Given
+given request receive estimate freshCookie server filter information = record {
+  request = request;
+  receive = receive;
+  estimate = estimate;
+  freshCookie = freshCookie;
+  server = server;
+  filter = filter;
+  information = information;
+}
+
 -- the header of the request
 abbrev pub asking : Given → Header
 asking g = headerOf (g .request)

@@ -8,7 +8,7 @@ use Rattle.chain.proofs.Datagrams.{header-read, not-refused}
 use Rattle.header.specs.Header.{headerOf}
 use Rattle.header.specs.declared.Header.{Header}
 use Rattle.store_rules.specs.Row.{rowOf, sizeOf, storeOctets, wrongStore}
-use Rattle.responder_rules.specs.Answer.{Given, asking, rowAfter, firstRefusal, wrongFresh}
+use Rattle.responder_rules.specs.Answer.{given, Given, asking, rowAfter, firstRefusal, wrongFresh}
 use Rattle.responder_rules.specs.Claim.{Accepted}
 use Rattle.responder_rules.proofs.Accepting.{first-pass}
 use Rattle.responder.proofs.Writing.{request-size}
@@ -18,16 +18,9 @@ use Rattle.responder.proofs.answer.Statement.{statement}
 use Rattle.responder.proofs.answer.Tie as tie
 
 -- what the call is given
-abbrev given : tie.Start → Given
-given c = record {
-  request = c .args .request .now;
-  receive = c .args .receive;
-  estimate = c .args .estimate;
-  freshCookie = c .args .fresh-cookie .0;
-  server = c .args .server;
-  filter = c .args .filter .now;
-  information = c .args .information .now;
-}
+abbrev givenAt : tie.Start → Given
+givenAt c =
+    given (c .args .request .now) (c .args .receive) (c .args .estimate) (c .args .fresh-cookie .0) (c .args .server) (c .args .filter .now) (c .args .information .now)
 
 -- the store is right
 abbrev begun : tie.Else1 → tie.Start
@@ -40,11 +33,11 @@ right c = sym (c .before .wrong .ensures) ∙ c .if1 .left
 abbrev start : tie.Else2 → tie.Start
 start c = begun (c .before .before)
 
-zero : (c : tie.Else2) → firstRefusal (given (start c)) ≡ 0
+zero : (c : tie.Else2) → firstRefusal (givenAt (start c)) ≡ 0
 zero c = sym (c .before .check .ensures) ∙ c .if2 .left
 
-passed : (c : tie.Else2) → Accepted (given (start c))
-passed c = first-pass (given (start c)) (zero c) .accepted
+passed : (c : tie.Else2) → Accepted (givenAt (start c))
+passed c = first-pass (givenAt (start c)) (zero c) .accepted
 
 -- the header read is the request's
 asked-is : (c : tie.After-asked) → c .asked .given .0 .0 ≡ headerOf (start (c .before .before .before) .args .request .now)
@@ -54,7 +47,7 @@ asked-is c =
 
 -- so that 8 is tested as the definition has it
 fresh-test : (c : tie.After-wrong-fresh) → let s = start (c .before .before .before .before .before .before) in
-    c .wrong-fresh .result ≡ wrongFresh (asking (given s)) (s .args .fresh-cookie .0) (rowOf (s .args .store .now))
+    c .wrong-fresh .result ≡ wrongFresh (asking (givenAt s)) (s .args .fresh-cookie .0) (rowOf (s .args .store .now))
 fresh-test c =
     let at-asked = c .before .before .before in
     let s = start (at-asked .before .before .before) in
@@ -67,7 +60,7 @@ same-length : tie.Need-same-length
 same-length c = search needs
 
 returns : tie.Need-returns
-returns c = refused-store (given (c .before .before .before .before .before .before .before .before)) _ _ (sym (c .before .wrong .ensures) ∙ c .if1 .taken)
+returns c = refused-store (givenAt (c .before .before .before .before .before .before .before .before)) _ _ (sym (c .before .wrong .ensures) ∙ c .if1 .taken)
 
 check-requires : tie.Need-check-requires
 check-requires c κs = search needs
@@ -78,7 +71,7 @@ same-length-2 c = search needs
 returns-2 : tie.Need-returns-2
 returns-2 c =
     let first = c .before .before in
-    refused-first (given (begun first)) _ _ (right first) (c .before .check .ensures) (c .if2 .taken)
+    refused-first (givenAt (begun first)) _ _ (right first) (c .before .check .ensures) (c .if2 .taken)
 
 read-requires : tie.Need-read-requires
 read-requires c κs = search needs
@@ -107,7 +100,7 @@ returns-4 : tie.Need-returns-4
 returns-4 c =
     let at-asked = c .before .before .before .before in
     let first = at-asked .before .before .before in
-    refused-fresh (given (start first)) _ _ (right (first .before .before)) (zero first) (sym (fresh-test (c .before)) ∙ c .if3 .taken)
+    refused-fresh (givenAt (start first)) _ _ (right (first .before .before)) (zero first) (sym (fresh-test (c .before)) ∙ c .if3 .taken)
 
 same-length-5 : tie.Need-same-length-5
 same-length-5 c = search needs
@@ -116,7 +109,7 @@ returns-5 : tie.Need-returns-5
 returns-5 c =
     let second = c .before in
     let first = second .before .before .before .before .before .before .before in
-    refused-room (given (start first)) _ _ (right (first .before .before)) (zero first) (sym (fresh-test (second .before)) ∙ second .if3 .left) (c .if4 .taken)
+    refused-room (givenAt (start first)) _ _ (right (first .before .before)) (zero first) (sym (fresh-test (second .before)) ∙ second .if3 .left) (c .if4 .taken)
 
 time-requires : tie.Need-time-requires
 time-requires c κs =
@@ -175,7 +168,7 @@ returns-6 c =
     let at-asked = at-fresh .before .before .before in
     let first = at-asked .before .before .before in
     let a = start first .args in
-    let g = given (start first) in
+    let g = givenAt (start first) in
     let sent = octets-sent g (rowOf (a .store .now)) (asked-is at-asked) (at-time .time .ensures) (at-header .header-of .ensures) (at-write .write .ensures) in
     answered g (a .store .now) (a .out .now) (right (first .before .before)) (zero first) (sym (fresh-test at-fresh) ∙ third .before .if3 .left) (third .if4 .left)
     (lent-back (a .out .now) (at-write .write .last .1 .1 .1 .1 .0) (length (a .request .now)) ∙ ap (λ (l : List ℕ). l ++ drop (length (a .request .now)) (a .out .now)) sent)

@@ -1,5 +1,5 @@
 -- `sent` meets its contract: the step's refusal, or header and fields one after the other. Assumes nothing.
-use Rattle.responder_rules.specs.Answer.{Given}
+use Rattle.responder_rules.specs.Answer.{given, Given}
 use Rattle.responder.proofs.Writing.{request-size}
 use Rattle.records_answer.specs.Sent.{Ready}
 use Rattle.records_answer.proofs.Sending.{fields-only, room, header-is, all-sent, none-sent}
@@ -8,28 +8,21 @@ use Rattle.records_answer.proofs.datagram.sent.Statement.{statement}
 use Rattle.records_answer.proofs.datagram.sent.Tie as tie
 
 -- what the call is given
-abbrev given : tie.Start → Given
-given c = record {
-  request = c .args .request .now;
-  receive = c .args .receive;
-  estimate = c .args .estimate;
-  freshCookie = c .args .fresh-cookie .0;
-  server = c .args .server;
-  filter = c .args .filter .now;
-  information = c .args .information .now;
-}
+abbrev givenAt : tie.Start → Given
+givenAt c =
+    given (c .args .request .now) (c .args .receive) (c .args .estimate) (c .args .fresh-cookie .0) (c .args .server) (c .args .filter .now) (c .args .information .now)
 
 -- the step is not refused
 abbrev start : tie.Else1 → tie.Start
 start c = c .before .before .before .before .before
 
-ready : (c : tie.Else1) → Ready (start c .args .checked) (given (start c)) (start c .args .out .now)
+ready : (c : tie.Else1) → Ready (start c .args .checked) (givenAt (start c)) (start c .args .out .now)
 ready c = start c .pre (c .if1 .left)
 
 returns : tie.Need-returns
 returns c =
     let start = c .before .before .before .before .before in
-    none-sent (given start) (start .args .out .now) (start .args .step) (c .if1 .taken)
+    none-sent (givenAt start) (start .args .out .now) (start .args .step) (c .if1 .taken)
 
 enum-known-checked : tie.Need-enum-known-checked
 enum-known-checked c = search needs
@@ -52,7 +45,7 @@ part-part-start c = search needs
 part-part-end : tie.Need-part-part-end
 part-part-end c =
     let first = c .before .before .before .before in
-    room (given (start first)) (start first .args .out .now) (ready first)
+    room (givenAt (start first)) (start first .args .out .now) (ready first)
 
 write-requires : tie.Need-write-requires
 write-requires c κs = search needs
@@ -77,7 +70,7 @@ returns-3 c =
     let at-header = at-write .before .before .before in
     let first = at-header .before .before .before .before in
     let s = start first in
-    all-sent (given s) (s .args .out .now) (ready first) (s .args .step) (first .if1 .left) (header-is (given s) (s .args .out .now) (ready first) (at-header .before .before .checked .given .1)) (at-header .header-of .ensures) (at-write .write .ensures) (at-fields .write2 .ensures)
+    all-sent (givenAt s) (s .args .out .now) (ready first) (s .args .step) (first .if1 .left) (header-is (givenAt s) (s .args .out .now) (ready first) (at-header .before .before .checked .given .1)) (at-header .header-of .ensures) (at-write .write .ensures) (at-fields .write2 .ensures)
 
 pub sent-spec : {M : Type 1} → statement M
 sent-spec =
