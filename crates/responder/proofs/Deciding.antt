@@ -1,5 +1,5 @@
 -- Which case of the answer holds, test by test. Assumes nothing.
-use mathlib.Core.Path.{_≡_, sym, ap, _∙_}
+use mathlib.Core.Path.{_≡_, refl, sym, ap, _∙_}
 use mathlib.Core.Bool.{Bool, true, false, cond}
 use mathlib.Core.List.{List, _++_}
 use Prim.Native.Nat.{ℕ, _-_, _<_, _≤_}
@@ -13,7 +13,7 @@ use Rattle.header.specs.Header.{headerOctets}
 use Rattle.header.specs.declared.Header.{Header}
 use Rattle.chain.specs.Content.{chainOctets}
 use Rattle.store_rules.specs.Row.{Record, storeOctets, sizeOf, rowOf, wrongStore}
-use Rattle.responder_rules.specs.Answer.{Given, asking, savedTime, answerHeader, sentHeader, sentFields, answerOctets, outputAfter, rowAfter, firstRefusal, wrongFresh, shortOutput, answerRefusal, outcome, answerOf}
+use Rattle.responder_rules.specs.Answer.{Given, asking, savedTime, answerHeader, sentHeader, sentFields, answerOctets, outputAfter, rowAfter, firstRefusal, wrongFresh, shortOutput, refusedAnswer, answerRefusal, outcome, answerOf}
 use Rattle.responder_rules.specs.declared.Answered.the-variants.{Written, Refused}
 use Rattle.responder_rules.proofs.Accepting.{answer-written, answer-refused}
 
@@ -24,17 +24,23 @@ module _ (g : Given) (store out : List ℕ) where
   refused : (n : ℕ) → (n ≡ 0 → ⊥) → answerRefusal g store out ≡ n → outcome (Refused n) out store ≡ answerOf g store out
   refused n z e = sym (answer-refused g store out (λ k. z (sym e ∙ k)) ∙ rw e)
 
-  -- a wrong store
-  pub refused-store : wrongStore store ≡ true → outcome (Refused 6) out store ≡ answerOf g store out
+  -- what the store, the arguments and the request are refused by
+  pub refused-first : {n : ℕ} → n ≡ cond (wrongStore store) 6 (firstRefusal g) → (n ≡ 0 → ⊥) → outcome (Refused n) out store ≡ answerOf g store out
   unfolding answerRefusal
-  refused-store e = refused 6 (λ q. absurd (omega arith)) (rw e)
+  refused-first {n} e z = refused n z (by (wrongStore store) e)
+    where
+      by : (wrong : Bool) → n ≡ cond wrong 6 (firstRefusal g) → refusedAnswer wrong (firstRefusal g) fresh (shortOutput g out) ≡ n
+      by true e = sym e
+      by false e = rw (← e, ne-eqb n 0 z)
+
+  pub right-store : 0 ≡ cond (wrongStore store) 6 (firstRefusal g) → wrongStore store ≡ false
+  right-store e = by (wrongStore store) e
+    where
+      by : (wrong : Bool) → 0 ≡ cond wrong 6 (firstRefusal g) → wrong ≡ false
+      by true e = absurd (omega arith)
+      by false e = refl
 
   module _ (right : wrongStore store ≡ false) where
-    -- the first refusals
-    pub refused-first : {n : ℕ} → n ≡ firstRefusal g → (n ≡ 0 → ⊥) → outcome (Refused n) out store ≡ answerOf g store out
-    unfolding answerRefusal
-    refused-first {n} e z = refused n z (rw (right, ← e, ne-eqb n 0 z))
-
     module _ (z : firstRefusal g ≡ 0) where
       later : answerRefusal g store out ≡ cond fresh 8 (cond (shortOutput g out) 11 0)
       unfolding answerRefusal

@@ -1,7 +1,7 @@
 -- `answer` meets its contract: each test is one of the definition's, and what is left is written. Assumes nothing.
 use mathlib.Core.Path.{_≡_, sym, ap, _∙_}
-use mathlib.Core.Bool.{false}
-use mathlib.Core.List.{List, _++_}
+use mathlib.Core.Bool.{false, cond}
+use mathlib.Core.List.{List, [], _++_}
 use Prim.Native.Nat.{ℕ}
 use lib.ListN.{length, drop}
 use Rattle.chain.proofs.Datagrams.{header-read, not-refused}
@@ -12,7 +12,7 @@ use Rattle.responder_rules.specs.Answer.{given, Given, asking, rowAfter, firstR
 use Rattle.responder_rules.specs.Claim.{Accepted}
 use Rattle.responder_rules.proofs.Accepting.{first-pass}
 use Rattle.responder.proofs.Writing.{request-size}
-use Rattle.responder.proofs.Deciding.{refused-store, refused-first, refused-fresh, refused-room, answered, lent-size, lent-back, octets-sent}
+use Rattle.responder.proofs.Deciding.{refused-first, right-store, refused-fresh, refused-room, answered, lent-size, lent-back, octets-sent}
 use borrow.Author.Needs.{needs}
 use Rattle.responder.proofs.answer.Statement.{statement}
 use Rattle.responder.proofs.answer.Tie as tie
@@ -22,21 +22,20 @@ abbrev givenAt : tie.Start → Given
 givenAt c =
     given (c .args .request .now) (c .args .receive) (c .args .estimate) (c .args .fresh-cookie .0) (c .args .server) (c .args .filter .now) (c .args .information .now)
 
--- the store is right
-abbrev begun : tie.Else1 → tie.Start
-begun c = c .before .before .before .before .before .before .before .before
+-- none of the first refusals holds: the store is right, and so are the arguments and the request
+abbrev start : tie.Else1 → tie.Start
+start c = c .before .before .before .before .before .before .before .before
 
-right : (c : tie.Else1) → wrongStore (begun c .args .store .now) ≡ false
-right c = sym (c .before .wrong .ensures) ∙ c .if1 .left
+none : (c : tie.Else1) → 0 ≡ cond (wrongStore (start c .args .store .now)) 6 (firstRefusal (givenAt (start c)))
+none c = sym (c .if1 .left) ∙ c .before .first-refusal .ensures
 
--- and none of the first refusals holds
-abbrev start : tie.Else2 → tie.Start
-start c = begun (c .before .before)
+right : (c : tie.Else1) → wrongStore (start c .args .store .now) ≡ false
+right c = right-store (givenAt (start c)) _ [] (none c)
 
-zero : (c : tie.Else2) → firstRefusal (givenAt (start c)) ≡ 0
-zero c = sym (c .before .check .ensures) ∙ c .if2 .left
+zero : (c : tie.Else1) → firstRefusal (givenAt (start c)) ≡ 0
+zero c = sym (none c ∙ rw (right c))
 
-passed : (c : tie.Else2) → Accepted (givenAt (start c))
+passed : (c : tie.Else1) → Accepted (givenAt (start c))
 passed c = first-pass (givenAt (start c)) (zero c) .accepted
 
 -- the header read is the request's
@@ -53,25 +52,14 @@ fresh-test c =
     let s = start (at-asked .before .before .before) in
     c .wrong-fresh .ensures ∙ ap (λ (h : Header). wrongFresh h (s .args .fresh-cookie .0) (rowOf (s .args .store .now))) (asked-is at-asked)
 
-wrong-requires : tie.Need-wrong-requires
-wrong-requires c κs = search needs
+first-refusal-requires : tie.Need-first-refusal-requires
+first-refusal-requires c κs = search needs
 
 same-length : tie.Need-same-length
 same-length c = search needs
 
 returns : tie.Need-returns
-returns c = refused-store (givenAt (c .before .before .before .before .before .before .before .before)) _ _ (sym (c .before .wrong .ensures) ∙ c .if1 .taken)
-
-check-requires : tie.Need-check-requires
-check-requires c κs = search needs
-
-same-length-2 : tie.Need-same-length-2
-same-length-2 c = search needs
-
-returns-2 : tie.Need-returns-2
-returns-2 c =
-    let first = c .before .before in
-    refused-first (givenAt (begun first)) _ _ (right first) (c .before .check .ensures) (c .if2 .taken)
+returns c = refused-first (givenAt (c .before .before .before .before .before .before .before .before)) _ _ (c .before .first-refusal .ensures) (c .if1 .taken)
 
 read-requires : tie.Need-read-requires
 read-requires c κs = search needs
@@ -82,39 +70,39 @@ enum-known-asked c = search needs
 enum-told : tie.Need-enum-told
 enum-told c = search needs
 
+same-length-2 : tie.Need-same-length-2
+same-length-2 c = search needs
+
+returns-2 : tie.Need-returns-2
+returns-2 c =
+    let at-read = c .before .before in
+    absurd (not-refused _ 3 _ (passed (at-read .before) .request) (at-read .read .ensures) (c .before .match .keys2))
+
+wrong-fresh-requires : tie.Need-wrong-fresh-requires
+wrong-fresh-requires c κs = right (c .before .before .before .before .before)
+
 same-length-3 : tie.Need-same-length-3
 same-length-3 c = search needs
 
 returns-3 : tie.Need-returns-3
 returns-3 c =
-    let at-read = c .before .before in
-    absurd (not-refused _ 3 _ (passed (at-read .before) .request) (at-read .read .ensures) (c .before .match .keys2))
-
-wrong-fresh-requires : tie.Need-wrong-fresh-requires
-wrong-fresh-requires c κs = right (c .before .before .before .before .before .before .before)
+    let at-asked = c .before .before .before .before in
+    let first = at-asked .before .before .before in
+    refused-fresh (givenAt (start first)) _ _ (right first) (zero first) (sym (fresh-test (c .before)) ∙ c .if2 .taken)
 
 same-length-4 : tie.Need-same-length-4
 same-length-4 c = search needs
 
 returns-4 : tie.Need-returns-4
 returns-4 c =
-    let at-asked = c .before .before .before .before in
-    let first = at-asked .before .before .before in
-    refused-fresh (givenAt (start first)) _ _ (right (first .before .before)) (zero first) (sym (fresh-test (c .before)) ∙ c .if3 .taken)
-
-same-length-5 : tie.Need-same-length-5
-same-length-5 c = search needs
-
-returns-5 : tie.Need-returns-5
-returns-5 c =
     let second = c .before in
     let first = second .before .before .before .before .before .before .before in
-    refused-room (givenAt (start first)) _ _ (right (first .before .before)) (zero first) (sym (fresh-test (second .before)) ∙ second .if3 .left) (c .if4 .taken)
+    refused-room (givenAt (start first)) _ _ (right first) (zero first) (sym (fresh-test (second .before)) ∙ second .if2 .left) (c .if3 .taken)
 
 time-requires : tie.Need-time-requires
 time-requires c κs =
     let first = c .before .before .before .before .before .before .before .before .before in
-    right (first .before .before)
+    right first
 
 header-of-requires : tie.Need-header-of-requires
 header-of-requires c κs = search needs
@@ -136,29 +124,29 @@ write-requires c κs =
     let first = at-fresh .before .before .before .before .before .before in
     let a = start first .args in
     let ok = passed first in
-    (ok .request, ok .filter, ok .information, lent-size (a .out .now) (length (a .request .now)) (third .if4 .left), rw (at-header .header-of .ensures) (ok .leap), rw (at-header .header-of .ensures))
+    (ok .request, ok .filter, ok .information, lent-size (a .out .now) (length (a .request .now)) (third .if3 .left), rw (at-header .header-of .ensures) (ok .leap), rw (at-header .header-of .ensures))
 
 keep-requires : tie.Need-keep-requires
 keep-requires c κs =
     let at-time = c .before .before .before .before .before .before in
     let first = at-time .before .before .before .before .before .before .before .before .before .before in
-    (right (first .before .before), at-time .time .ensures)
+    (right first, at-time .time .ensures)
 
-cast-t32 : tie.Need-cast-t32
-cast-t32 c =
+cast-t31 : tie.Need-cast-t31
+cast-t31 c =
     let at-write = c .before .before .before .before .before .before in
     let first = at-write .before .before .before .before .before .before .before .before .before .before .before .before .before in
     let size = request-size _ (passed first .request) in
     search needs
 
+same-length-5 : tie.Need-same-length-5
+same-length-5 c = search needs
+
 same-length-6 : tie.Need-same-length-6
 same-length-6 c = search needs
 
-same-length-7 : tie.Need-same-length-7
-same-length-7 c = search needs
-
-returns-6 : tie.Need-returns-6
-returns-6 c =
+returns-5 : tie.Need-returns-5
+returns-5 c =
     let at-keep = c .before .before in
     let at-write = at-keep .before .before .before .before in
     let at-header = at-write .before .before in
@@ -170,7 +158,7 @@ returns-6 c =
     let a = start first .args in
     let g = givenAt (start first) in
     let sent = octets-sent g (rowOf (a .store .now)) (asked-is at-asked) (at-time .time .ensures) (at-header .header-of .ensures) (at-write .write .ensures) in
-    answered g (a .store .now) (a .out .now) (right (first .before .before)) (zero first) (sym (fresh-test at-fresh) ∙ third .before .if3 .left) (third .if4 .left)
+    answered g (a .store .now) (a .out .now) (right first) (zero first) (sym (fresh-test at-fresh) ∙ third .before .if2 .left) (third .if3 .left)
     (lent-back (a .out .now) (at-write .write .last .1 .1 .1 .1 .0) (length (a .request .now)) ∙ ap (λ (l : List ℕ). l ++ drop (length (a .request .now)) (a .out .now)) sent)
     (at-keep .keep .ensures ∙ ap (λ (h : Header). storeOctets (sizeOf (a .store .now)) (rowAfter h (a .fresh-cookie .0) (sizeOf (a .store .now)) (rowOf (a .store .now)))) (asked-is at-asked))
 
@@ -178,22 +166,19 @@ pub answer-spec : {M : Type 1} → statement M
 answer-spec =
     tie.close
     (tie.spec
-    wrong-requires
+    first-refusal-requires
     same-length
     returns
-    check-requires
-    same-length-2
-    returns-2
     read-requires
     enum-known-asked
     enum-told
+    same-length-2
+    returns-2
+    wrong-fresh-requires
     same-length-3
     returns-3
-    wrong-fresh-requires
     same-length-4
     returns-4
-    same-length-5
-    returns-5
     time-requires
     header-of-requires
     sub-write
@@ -201,7 +186,7 @@ answer-spec =
     part-write-end
     write-requires
     keep-requires
-    cast-t32
+    cast-t31
+    same-length-5
     same-length-6
-    same-length-7
-    returns-6)
+    returns-5)
