@@ -1,5 +1,5 @@
 #!/usr/bin/env python3
-"""Holds docs/TRACE.md, the map from document 01 to the proofs, to the repository.
+"""Holds docs/TRACE.md, the map from documents 01 and 02 to the proofs, to the repository.
 
 Everything in backticks there is a file, or a file and a name in it after a colon. Fails, with a line for each, if a file is
 gone, if a name is not defined in its file, or if a row of a table lacks a cell. A law of `proofs/` is one that docs/CLAIMS.md

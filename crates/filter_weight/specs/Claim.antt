@@ -1,12 +1,17 @@
--- Document 01, "Filter": weight is the number of bits set.
+-- Document 01, "Filter": weight is the number of bits set. And by whole words, as W-203 asks.
 use mathlib.Core.Path.{_≡_}
 use mathlib.Core.List.{List}
 use Prim.Native.Nat.{ℕ}
 use lib.Count.{ones}
 use Rattle.octets.specs.Number.{Octets}
 use Rattle.filter.specs.Filter.{weight}
-use Rattle.filter_weight.specs.Weighing.{lowFirst}
+use Rattle.filter_words.specs.Words.{lowFirst, wordsOf}
+use Rattle.filter_weight.specs.Weighing.{onesOf}
 
 -- the positions that are set are as many as the ones of the number that the filter's octets spell
 abbrev pub BitsSet : Type 0
 BitsSet = (f : List ℕ) → Octets f → weight f ≡ ones (lowFirst f 0 512)
+
+-- the weight is the sum of the ones of the 64 words
+abbrev pub WeightOfWords : Type 0
+WeightOfWords = (f : List ℕ) → Octets f → weight f ≡ onesOf (wordsOf f)

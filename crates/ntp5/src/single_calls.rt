@@ -8,7 +8,7 @@ ghost use mathlib.Core.Path.{_≡_};
 ghost use Rattle.header.specs.Header.{refusal, reading, headerOf, written};
 ghost use Rattle.chain.specs.Chain.{soundRefusal};
 ghost use Rattle.filter.specs.Calls.{addId, unite};
-ghost use Rattle.filter_weight.specs.Weighing.{weighed};
+ghost use Rattle.filter_weight.specs.Weighing.{weighing, numbers};
 ghost use Rattle.measure.specs.Measure.{offset, delay};
 ghost use Rattle.c_structs.specs.Numbers.{weightNumbers};
 ghost use Rattle.c_structs.specs.Headers.{readOf, coreHeader};
@@ -50,7 +50,7 @@ pub extern "C" fn ntp5_filter_union(into: &mut [u8], other: &[u8]) -> u8
 
 #[no_mangle]
 pub extern "C" fn ntp5_filter_weight(filter: &[u8]) -> Weight
-    ensures { λ r. ⌜ weightNumbers r ≡ weighed (now (filter .entry)) ⌝ }
+    ensures { λ r. ⌜ weightNumbers r ≡ numbers (weighing (now (filter .entry))) ⌝ }
 {
     answers::of_weighing(filter_weight::weigh(filter))
 }

@@ -9,7 +9,7 @@ use Rattle.header.specs.declared.Reading.{Reading}
 use Rattle.header.specs.declared.Reading.the-variants.{Fields, Refused}
 use Rattle.chain.specs.Chain.{soundRefusal}
 use Rattle.filter.specs.Calls.{addId, unite}
-use Rattle.filter_weight.specs.Weighing.{weighed}
+use Rattle.filter_weight.specs.Weighing.{weighing, numbers}
 
 pub data Call : Type 0 where
   headerRead : (datagram : List ℕ) (wanted : ℕ) → Call
@@ -57,4 +57,4 @@ step (headerWrite fields out) = outputAnswer (written fields out)
 step (sound datagram wanted) = plainAnswer (soundRefusal datagram wanted) []
 step (filterAdd filter id) = outputAnswer (addId filter id)
 step (filterUnion into other) = outputAnswer (unite into other)
-step (filterWeight filter) = weightAnswer (weighed filter)
+step (filterWeight filter) = weightAnswer (numbers (weighing filter))

@@ -45,6 +45,9 @@ const ANSWER: [fn(&mut State); 3] = [library_answer, plain_answer, lent_answer];
 const WEIGHT: [fn(&mut State); 3] =
     single(made!(|s| calls::filter_weight(&s.filter)), made!(|s| plain::weight(&s.filter)));
 
+const WEIGHT_BY_OCTETS: [fn(&mut State); 3] =
+    single(made!(|s| calls::filter_weight(&s.filter)), made!(|s| plain::weight_by_octets(&s.filter)));
+
 const SOUND: [fn(&mut State); 3] = single(
     made!(|s| calls::sound(&s.datagram, REQUEST)),
     made!(|s| plain::sound(&s.datagram, REQUEST)),
@@ -149,7 +152,7 @@ fn header_only() -> State {
 
 /// All cases.
 #[rustfmt::skip]
-pub const CASES: [Case; 18] = [
+pub const CASES: [Case; 19] = [
     Case { name: "poll-16", state: || State::opened(16), reset: Reset::Cookie, calls: POLL },
     Case { name: "poll-512", state: || State::opened(512), reset: Reset::Cookie, calls: POLL },
     Case { name: "receive-basic-16", state: || State::asked(16, 0), reset: Reset::Record, calls: RECEIVE },
@@ -164,6 +167,7 @@ pub const CASES: [Case; 18] = [
     Case { name: "answer-1280", state: many_fields, reset: Reset::Nothing, calls: ANSWER },
     Case { name: "answer-interleaved-64", state: State::full_store, reset: Reset::Store, calls: ANSWER },
     Case { name: "weight", state: header_only, reset: Reset::Nothing, calls: WEIGHT },
+    Case { name: "weight-by-octets", state: header_only, reset: Reset::Nothing, calls: WEIGHT_BY_OCTETS },
     Case { name: "sound-1280", state: three_hundred_fields, reset: Reset::Nothing, calls: SOUND },
     Case { name: "add", state: header_only, reset: Reset::Nothing, calls: ADD },
     Case { name: "offset", state: header_only, reset: Reset::Nothing, calls: OFFSET },

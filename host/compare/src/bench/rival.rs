@@ -60,6 +60,12 @@ pub mod plain {
         filter::weight(octets)
     }
 
+    /// The weight counted octet by octet, to measure what counting by words saves.
+    #[inline(never)]
+    pub fn weight_by_octets(octets: &[u8]) -> Result<u16, Refusal> {
+        Ok(filter::of(octets)?.iter().map(|octet| octet.count_ones() as u16).sum())
+    }
+
     /// See [`chain::sound`].
     #[inline(never)]
     pub fn sound(datagram: &[u8], mode: u8) -> Result<(), Refusal> {

@@ -1,0 +1,3 @@
+-- The laws of a filter's words. Assumes nothing.
+pub mod Spelling
+pub mod Words

@@ -1,0 +1,24 @@
+-- The laws of a filter's words.
+use mathlib.Core.Path.{_≡_}
+use mathlib.Core.List.{List}
+use Prim.Native.Nat.{ℕ, _*_, _<_}
+use lib.ListN.{length, getD}
+use Rattle.octets.specs.Number.{Octets}
+use Rattle.filter.specs.Filter.{isSet}
+use Rattle.filter_words.specs.Words.{Words, lowFirst, wordsOf, isSetIn}
+
+-- there are 64 of them
+abbrev pub SixtyFour : Type 0
+SixtyFour = (f : List ℕ) → length (wordsOf f) ≡ 64
+
+-- each below 2^64
+abbrev pub EachAWord : Type 0
+EachAWord = (f : List ℕ) → Octets f → Words (wordsOf f)
+
+-- word i is what octets 8i to 8i + 7 spell
+abbrev pub EightOctets : Type 0
+EightOctets = (f : List ℕ) (i : ℕ) → i < 64 → getD (wordsOf f) i 0 ≡ lowFirst f (8 * i) 8
+
+-- position p is bit p mod 64 of word p div 64
+abbrev pub PositionInWord : Type 0
+PositionInWord = (f : List ℕ) → Octets f → (p : ℕ) → p < 4096 → isSet f p ≡ isSetIn (wordsOf f) p

@@ -1,0 +1,3 @@
+-- A filter as 64 words of 64 bits.
+pub mod Words
+pub mod Claim
