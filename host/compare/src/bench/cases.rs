@@ -45,8 +45,10 @@ const ANSWER: [fn(&mut State); 3] = [library_answer, plain_answer, lent_answer];
 const WEIGHT: [fn(&mut State); 3] =
     single(made!(|s| calls::filter_weight(&s.filter)), made!(|s| plain::weight(&s.filter)));
 
-const WEIGHT_BY_OCTETS: [fn(&mut State); 3] =
-    single(made!(|s| calls::filter_weight(&s.filter)), made!(|s| plain::weight_by_octets(&s.filter)));
+const WEIGHT_BY_OCTETS: [fn(&mut State); 3] = single(
+    made!(|s| calls::filter_weight(&s.filter)),
+    made!(|s| plain::weight_by_octets(&s.filter)),
+);
 
 const SOUND: [fn(&mut State); 3] = single(
     made!(|s| calls::sound(&s.datagram, REQUEST)),
