@@ -1,7 +1,8 @@
 -- The words of a filter. Assumes nothing.
---     sixty-four, each-a-word, eight-octets    64 of them, each below 2^64, each spelled by its eight octets
---     word-read                                the word that is read from a filter of 512 octets
---     position-in-word                         position p is bit p mod 64 of word p div 64
+--     sixty-four-words, word-bound    64 of them, each below 2^64
+--     eight-octets                    each spelled by its eight octets
+--     word-read                       the word that is read from a filter of 512 octets
+--     position-in-word                position p is bit p mod 64 of word p div 64
 use mathlib.Core.Path.{_≡_, refl, sym, ap, ap₂, _∙_}
 use mathlib.Core.List.{List}
 use Prim.Native.Nat.{ℕ, zero, suc, _+_, _*_, _/_, _%_, _^_, _<_}
@@ -13,7 +14,7 @@ use lib.ListN.{length, getD}
 use Rattle.octets.specs.Number.{Octets}
 use Rattle.filter.proofs.Adding.{digit}
 use Rattle.filter_words.specs.Words.{Words, lowFirst, wordAt, wordsFrom, wordsOf}
-use Rattle.filter_words.specs.Claim.{SixtyFour, EachAWord, EightOctets, PositionInWord}
+use Rattle.filter_words.specs.Claim.{SixtyFourWords, WordBound, EightOctets, PositionInWord}
 use Rattle.filter_words.proofs.Spelling.{lowFirst-lt, bit-of}
 
 length-words : (f : List ℕ) (i n : ℕ) → length (wordsFrom f i n) ≡ n
@@ -35,11 +36,11 @@ words-at f i (suc n) (suc k) h =
     let e : suc i + k ≡ i + suc k = omega arith in
     words-at f (suc i) n k (omega arith) ∙ ap (λ (j : ℕ). lowFirst f (8 * j) 8) e
 
-pub sixty-four : SixtyFour
-sixty-four f = length-words f 0 64
+pub sixty-four-words : SixtyFourWords
+sixty-four-words f = length-words f 0 64
 
-pub each-a-word : EachAWord
-each-a-word f o = words-lt f o 0 64
+pub word-bound : WordBound
+word-bound f o = words-lt f o 0 64
 
 pub eight-octets : EightOctets
 eight-octets f i h = words-at f 0 64 i h ∙ ap (λ (j : ℕ). lowFirst f (8 * j) 8) (omega arith)

@@ -8,12 +8,12 @@ use Rattle.filter.specs.Filter.{isSet}
 use Rattle.filter_words.specs.Words.{Words, lowFirst, wordsOf, isSetIn}
 
 -- there are 64 of them
-abbrev pub SixtyFour : Type 0
-SixtyFour = (f : List ℕ) → length (wordsOf f) ≡ 64
+abbrev pub SixtyFourWords : Type 0
+SixtyFourWords = (f : List ℕ) → length (wordsOf f) ≡ 64
 
 -- each below 2^64
-abbrev pub EachAWord : Type 0
-EachAWord = (f : List ℕ) → Octets f → Words (wordsOf f)
+abbrev pub WordBound : Type 0
+WordBound = (f : List ℕ) → Octets f → Words (wordsOf f)
 
 -- word i is what octets 8i to 8i + 7 spell
 abbrev pub EightOctets : Type 0

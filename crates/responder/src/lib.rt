@@ -41,7 +41,7 @@ pub fn check(
 
 // The same after the store's 6. A function of its own: with its tests in `answer` the compiler leaves writing and saving out of line, 80
 // instructions an answer.
-fn first_refusal(
+fn check_with_store(
     store: &[u8],
     request: &[u8],
     filter: &[u8],
@@ -86,7 +86,7 @@ pub fn answer(
         ≡ answerOf (given (now (request .entry)) receive estimate («fresh_cookie» .0) server (now (filter .entry)) (now (information .entry)))
         (now (store .entry)) (now (out .entry)) ⌝ }
 {
-    let number = first_refusal(
+    let number = check_with_store(
         store,
         request,
         filter,

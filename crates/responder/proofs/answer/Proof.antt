@@ -26,14 +26,14 @@ givenAt c =
 abbrev start : tie.Else1 → tie.Start
 start c = c .before .before .before .before .before .before .before .before
 
-none : (c : tie.Else1) → 0 ≡ cond (wrongStore (start c .args .store .now)) 6 (firstRefusal (givenAt (start c)))
-none c = sym (c .if1 .left) ∙ c .before .first-refusal .ensures
+no-refusal : (c : tie.Else1) → 0 ≡ cond (wrongStore (start c .args .store .now)) 6 (firstRefusal (givenAt (start c)))
+no-refusal c = sym (c .if1 .left) ∙ c .before .check-with-store .ensures
 
 right : (c : tie.Else1) → wrongStore (start c .args .store .now) ≡ false
-right c = right-store (givenAt (start c)) _ [] (none c)
+right c = right-store (givenAt (start c)) _ [] (no-refusal c)
 
 zero : (c : tie.Else1) → firstRefusal (givenAt (start c)) ≡ 0
-zero c = sym (none c ∙ rw (right c))
+zero c = sym (no-refusal c ∙ rw (right c))
 
 passed : (c : tie.Else1) → Accepted (givenAt (start c))
 passed c = first-pass (givenAt (start c)) (zero c) .accepted
@@ -52,14 +52,14 @@ fresh-test c =
     let s = start (at-asked .before .before .before) in
     c .wrong-fresh .ensures ∙ ap (λ (h : Header). wrongFresh h (s .args .fresh-cookie .0) (rowOf (s .args .store .now))) (asked-is at-asked)
 
-first-refusal-requires : tie.Need-first-refusal-requires
-first-refusal-requires c κs = search needs
+check-with-store-requires : tie.Need-check-with-store-requires
+check-with-store-requires c κs = search needs
 
 same-length : tie.Need-same-length
 same-length c = search needs
 
 returns : tie.Need-returns
-returns c = refused-first (givenAt (c .before .before .before .before .before .before .before .before)) _ _ (c .before .first-refusal .ensures) (c .if1 .taken)
+returns c = refused-first (givenAt (c .before .before .before .before .before .before .before .before)) _ _ (c .before .check-with-store .ensures) (c .if1 .taken)
 
 read-requires : tie.Need-read-requires
 read-requires c κs = search needs
@@ -166,7 +166,7 @@ pub answer-spec : {M : Type 1} → statement M
 answer-spec =
     tie.close
     (tie.spec
-    first-refusal-requires
+    check-with-store-requires
     same-length
     returns
     read-requires

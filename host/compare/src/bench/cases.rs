@@ -6,6 +6,7 @@ use super::{Case, HasRefusal, Reset};
 use ntp5::ffi::calls;
 use reference::chain;
 use reference::header::{Header, ServerCookie, REQUEST};
+use reference::refusal::Refusal;
 use reference::responder::Occasion;
 use std::hint::black_box;
 
@@ -42,13 +43,10 @@ const PUBLISH: [fn(&mut State); 3] = [
 
 const ANSWER: [fn(&mut State); 3] = [library_answer, plain_answer, lent_answer];
 
-const WEIGHT: [fn(&mut State); 3] =
-    single(made!(|s| calls::filter_weight(&s.filter)), made!(|s| plain::weight(&s.filter)));
+const WEIGHT: [fn(&mut State); 3] = single(library_weight, |s| rival_weight(s, plain::weight));
 
-const WEIGHT_BY_OCTETS: [fn(&mut State); 3] = single(
-    made!(|s| calls::filter_weight(&s.filter)),
-    made!(|s| plain::weight_by_octets(&s.filter)),
-);
+const WEIGHT_BY_OCTETS: [fn(&mut State); 3] =
+    single(library_weight, |s| rival_weight(s, plain::weight_by_octets));
 
 const SOUND: [fn(&mut State); 3] = single(
     made!(|s| calls::sound(&s.datagram, REQUEST)),
@@ -73,6 +71,18 @@ const DELAY: [fn(&mut State); 3] = single(
 /// A call without table and store is the same on lent octets.
 const fn single(library: fn(&mut State), plain: fn(&mut State)) -> [fn(&mut State); 3] {
     [library, plain, plain]
+}
+
+fn library_weight(s: &mut State) {
+    let weighed = black_box(calls::filter_weight(&s.filter));
+    s.keep_weight(weighed.weight);
+    s.refusal = weighed.refusal();
+}
+
+fn rival_weight(s: &mut State, weigh: fn(&[u8]) -> Result<u16, Refusal>) {
+    let weighed = black_box(weigh(&s.filter));
+    s.keep_weight(weighed.unwrap_or(0));
+    s.refusal = weighed.refusal();
 }
 
 fn occasion(fresh: u64) -> Occasion {

@@ -102,6 +102,11 @@ impl State {
         State::new(plain, store, 8, response)
     }
 
+    /// A weight goes to the output, where the sides are compared.
+    pub fn keep_weight(&mut self, weight: u16) {
+        self.out[..2].copy_from_slice(&weight.to_be_bytes());
+    }
+
     /// Sixteen associations with complete filters; `selected` is published.
     pub fn complete(selected: u16) -> Self {
         let (mut plain, mut store) = (Table::default(), Store::new(8).expect("eight records"));
