@@ -1,0 +1,48 @@
+-- The laws of filters for a safety review: each sentence of change request W-207 once, in its order.
+--
+-- How to read them: a line with `Type 0` names a law, and the next one states it. `(f g : List ℕ) → L` is ∀ f g: L. `A → L` is "L, if A".
+-- `×` is "and". f, g and h are filters, lists of octets; `length f` is how many octets f has. A law that needs sizes asks for 512 octets,
+-- or only for one size. `addAll f (positions id)` is f with an ID added. All words are those of the contracts; Filter.antt and
+-- Publishing.antt beside this file define them.
+use mathlib.Core.Path.{_≡_}
+use mathlib.Core.List.{List}
+use Prim.Native.Nat.{ℕ, _+_, _<_, _≤_, min, max}
+use lib.ListN.{length}
+use Rattle.order.specs.Order.{Permutation}
+use Rattle.filter.specs.Positions.{positions}
+use Rattle.filter.specs.Filter.{freshFilter, addAll, union, weight}
+use Rattle.filter.specs.Publishing.{selectedOnes, joined, publishedFilter}
+
+-- Union does not care about order,
+abbrev pub UnionOrder : Type 0
+UnionOrder = (f g : List ℕ) → length f ≡ length g → union f g ≡ union g f
+
+-- nor about grouping.
+abbrev pub UnionGrouping : Type 0
+UnionGrouping = (f g h : List ℕ) → length f ≡ length g → union (union f g) h ≡ union f (union g h)
+
+-- A filter joined with itself is itself.
+abbrev pub UnionItself : Type 0
+UnionItself = (f : List ℕ) → union f f ≡ f
+
+-- The fresh filter changes nothing.
+abbrev pub UnionFresh : Type 0
+UnionFresh = (f : List ℕ) → length f ≡ 512 → (union f freshFilter ≡ f) × (union freshFilter f ≡ f)
+
+-- Adding an ID to one side of a union is adding it to the result.
+abbrev pub UnionAdding : Type 0
+UnionAdding = (f g id : List ℕ) → length f ≡ length g
+    → (union (addAll f (positions id)) g ≡ addAll (union f g) (positions id))
+    × (union f (addAll g (positions id)) ≡ addAll (union f g) (positions id))
+
+-- The weight of a union is at least the larger weight, and at most the smaller of 4,096 and the sum of the weights.
+abbrev pub UnionWeight : Type 0
+UnionWeight = (f g : List ℕ) → length f ≡ length g
+    → (max (weight f) (weight g) ≤ weight (union f g)) × (weight (union f g) ≤ min 4096 (weight f + weight g))
+
+-- Publishing gives the same filter for any order of joining the selected sources: `filterOf a` is the filter of association a, and
+-- `order` has the selected associations in any order.
+abbrev pub PublishingOrder : Type 0
+PublishingOrder = (filterOf : ℕ → List ℕ) → ((a : ℕ) → a < 16 → length (filterOf a) ≡ 512)
+    → (selected : ℕ) (id order : List ℕ) → Permutation order (selectedOnes selected)
+    → addAll (joined filterOf freshFilter order) (positions id) ≡ publishedFilter filterOf selected id

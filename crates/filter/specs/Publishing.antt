@@ -1,0 +1,29 @@
+-- Publishing: the union of the filters of the associations that a 16-bit number selects, with the own ID added.
+use mathlib.Core.Bool.{Bool, cond}
+use mathlib.Core.List.{List, [], _∷_}
+use Prim.Native.Nat.{ℕ, zero, suc, _/_, _%_, _^_}
+use lib.Dec.{eqb}
+use Rattle.filter.specs.Positions.{positions}
+use Rattle.filter.specs.Filter.{freshFilter, addAll, union}
+
+-- bit 2^a of a number
+abbrev pub bit : ℕ → ℕ → Bool
+bit a selected = eqb (selected / 2 ^ a % 2) 1
+
+-- of the n associations from a on those that are selected
+unfoldable pub selectedFrom : (selected n a : ℕ) → List ℕ
+selectedFrom selected zero a = []
+selectedFrom selected (suc n) a = cond (bit a selected) (a ∷ selectedFrom selected n (suc a)) (selectedFrom selected n (suc a))
+
+-- of all sixteen
+abbrev pub selectedOnes : ℕ → List ℕ
+selectedOnes selected = selectedFrom selected 16 0
+
+-- f joined with the filters of associations, one after the other; filterOf a is association a's
+unfoldable pub joined : (ℕ → List ℕ) → List ℕ → List ℕ → List ℕ
+joined filterOf f [] = f
+joined filterOf f (a ∷ rest) = joined filterOf (union f (filterOf a)) rest
+
+-- none selected gives the own ID alone
+abbrev pub publishedFilter : (ℕ → List ℕ) → ℕ → List ℕ → List ℕ
+publishedFilter filterOf selected id = addAll (joined filterOf freshFilter (selectedOnes selected)) (positions id)
