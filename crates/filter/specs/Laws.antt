@@ -11,7 +11,7 @@ use lib.ListN.{length}
 use Rattle.order.specs.Order.{Permutation}
 use Rattle.filter.specs.Positions.{positions}
 use Rattle.filter.specs.Filter.{freshFilter, addAll, union, weight}
-use Rattle.filter.specs.Publishing.{selectedOnes, joined, publishedFilter}
+use Rattle.filter.specs.Publishing.{selectedAssociations, joined, publishedFilter}
 
 -- Union does not care about order,
 abbrev pub UnionOrder : Type 0
@@ -44,5 +44,5 @@ UnionWeight = (f g : List ℕ) → length f ≡ length g
 -- `order` has the selected associations in any order.
 abbrev pub PublishingOrder : Type 0
 PublishingOrder = (filterOf : ℕ → List ℕ) → ((a : ℕ) → a < 16 → length (filterOf a) ≡ 512)
-    → (selected : ℕ) (id order : List ℕ) → Permutation order (selectedOnes selected)
+    → (selected : ℕ) (id order : List ℕ) → Permutation order (selectedAssociations selected)
     → addAll (joined filterOf freshFilter order) (positions id) ≡ publishedFilter filterOf selected id

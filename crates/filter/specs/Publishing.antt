@@ -10,20 +10,20 @@ use Rattle.filter.specs.Filter.{freshFilter, addAll, union}
 abbrev pub bit : ℕ → ℕ → Bool
 bit a selected = eqb (selected / 2 ^ a % 2) 1
 
--- of the n associations from a on those that are selected
+-- the selected ones of the n associations from a on
 unfoldable pub selectedFrom : (selected n a : ℕ) → List ℕ
 selectedFrom selected zero a = []
 selectedFrom selected (suc n) a = cond (bit a selected) (a ∷ selectedFrom selected n (suc a)) (selectedFrom selected n (suc a))
 
--- of all sixteen
-abbrev pub selectedOnes : ℕ → List ℕ
-selectedOnes selected = selectedFrom selected 16 0
+-- the selected ones of all sixteen
+abbrev pub selectedAssociations : ℕ → List ℕ
+selectedAssociations selected = selectedFrom selected 16 0
 
 -- f joined with the filters of associations, one after the other; filterOf a is association a's
 unfoldable pub joined : (ℕ → List ℕ) → List ℕ → List ℕ → List ℕ
 joined filterOf f [] = f
 joined filterOf f (a ∷ rest) = joined filterOf (union f (filterOf a)) rest
 
--- none selected gives the own ID alone
+-- the selected ones' filters, joined from a fresh one on, and the own ID added; none selected gives the own ID alone
 abbrev pub publishedFilter : (ℕ → List ℕ) → ℕ → List ℕ → List ℕ
-publishedFilter filterOf selected id = addAll (joined filterOf freshFilter (selectedOnes selected)) (positions id)
+publishedFilter filterOf selected id = addAll (joined filterOf freshFilter (selectedAssociations selected)) (positions id)
