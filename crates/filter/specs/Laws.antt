@@ -2,8 +2,8 @@
 --
 -- How to read them: a line with `Type 0` names a law, and the next one states it. `(f g : List ℕ) → L` is ∀ f g: L. `A → L` is "L, if A".
 -- `×` is "and". f, g and h are filters, lists of octets; `length f` is how many octets f has. A law that needs sizes asks for 512 octets,
--- or only for one size. `addAll f (positions id)` is f with an ID added. All words are those of the contracts; Filter.antt and
--- Publishing.antt beside this file define them.
+-- or only that two filters have the same size. `addAll f (positions id)` is f with an ID added. All words are those of the contracts;
+-- Filter.antt and Publishing.antt beside this file define them.
 use mathlib.Core.Path.{_≡_}
 use mathlib.Core.List.{List}
 use Prim.Native.Nat.{ℕ, _+_, _<_, _≤_, min, max}
