@@ -49,13 +49,17 @@ enum {
     NTP5_NOT_STORED = 12      /* the server cookie is not in the store, or its time was reported already */
 };
 
-/* Judgements of an accepted response, the first that applies. Only a usable one has an offset and a delay. */
+/*
+ * Judgements of an accepted response, the first that applies, and of a measurement: 0 or 5. Only a usable one has an offset and
+ * a delay; else both are 0.
+ */
 enum {
     NTP5_USABLE = 0,
     NTP5_UNSYNCHRONIZED = 1,  /* its leap is 3 */
     NTP5_BAD_STRATUM = 2,     /* its stratum is not 1 to 15 */
     NTP5_OTHER_TIMESCALE = 3, /* its timescale (if interleaved, also that of the response before) is not the association's */
-    NTP5_TIME_UNKNOWN = 4     /* a timestamp that the measurement needs is 0 */
+    NTP5_TIME_UNKNOWN = 4,    /* a timestamp that the measurement needs is 0 */
+    NTP5_HALF_ERA = 5         /* T2 - T1, T3 - T4, T4 - T1 or T3 - T2 is 2^31 s, half an era: it has no sign */
 };
 
 /* What became of an accepted response's filter chunk. */
@@ -100,6 +104,13 @@ typedef struct {
     int64_t offset;
     uint64_t delay;
 } ntp5_received;
+
+/* The same of four timestamps: judgement 0, or 5 and zeros. */
+typedef struct {
+    uint8_t judgement;
+    int64_t offset;
+    uint64_t delay;
+} ntp5_measurement;
 
 typedef struct {
     uint8_t refusal;
@@ -263,15 +274,14 @@ ntp5_weight ntp5_filter_weight(const uint8_t *filter, size_t filter_len);
  * MEASUREMENT
  *
  * T1: the request left the client, T2: it came to the server, T3: the answer left the server, T4: it came to the client. The
- * four differences are the right ones across an era's end, as long as the clocks are less than 2^31 s (68 years) apart.
- * Any numbers are taken, and nothing is refused.
+ * four differences are the right ones across an era's end, as long as the clocks are less than 2^31 s (68 years) apart. At
+ * exactly that, half an era, either clock may be ahead: the judgement is 5, and offset and delay are 0.
+ * Any numbers are taken, 0 too, and nothing is refused.
+ *
+ * offset: ((T2 - T1) + (T3 - T4)) / 2, rounded toward minus infinity; from -(2^63 - 1) to 2^63 - 1.
+ * delay: the size of (T4 - T1) - (T3 - T2); at most 2^64 - 2.
  */
-
-/* ((T2 - T1) + (T3 - T4)) / 2, rounded toward minus infinity: by how much the server's clock is ahead. */
-int64_t ntp5_offset(uint64_t t1, uint64_t t2, uint64_t t3, uint64_t t4);
-
-/* The size of (T4 - T1) - (T3 - T2): the time spent on the way. */
-uint64_t ntp5_delay(uint64_t t1, uint64_t t2, uint64_t t3, uint64_t t4);
+ntp5_measurement ntp5_measure(uint64_t t1, uint64_t t2, uint64_t t3, uint64_t t4);
 
 #ifdef __cplusplus
 }

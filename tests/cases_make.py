@@ -187,6 +187,18 @@ measure 1 0 0 0
 measure 0 0 0 3
 measure 3 0 0 0
 
+# Half an era apart, judgement 5: each of the four differences alone
+measure 1 0x8000000000000001 0x8000000000000003 5
+measure 1 0x8000000000000003 0x8000000000000005 5
+measure 1 3 5 0x8000000000000001
+measure 1 3 0x8000000000000003 9
+
+# A difference of 2^63 - 1 and of -(2^63 - 1) counts: the largest offset, the smallest, the largest delay both ways
+measure 1 0x8000000000000000 0x8000000000000000 1
+measure 0x8000000000000000 1 1 0x8000000000000000
+measure 1 1 0x8000000000000002 0x8000000000000000
+measure 0x8000000000000000 0x8000000000000002 1 1
+
 # Lines that are no calls
 sounds 3 2b00*47
 Sound 3 2b00*47

@@ -11,7 +11,7 @@ import sys
 
 sys.dont_write_bytecode = True      # no generated folder beside the sources
 from client_model import Table      # noqa: E402
-from page_model import (add, delay, header_refusal, offset, read_header, sound, union, weight,     # noqa: E402
+from page_model import (add, header_refusal, measure, read_header, sound, union, weight,           # noqa: E402
                         write_header)
 from responder_model import Store       # noqa: E402
 
@@ -131,7 +131,8 @@ def weight_call(octets):
 
 
 def measure_call(*times):
-    return f"{offset(*times)} {delay(*times)}"
+    judgement, offset, delay = measure(*times)
+    return f"{judgement} {offset} {delay}"
 
 
 TABLE = Table()     # one for the whole case file
@@ -143,10 +144,10 @@ def poll_call(*words):
 
 
 def receive_call(*words):
-    refusal, judgement, chunk, measured_offset, measured_delay = TABLE.receive(*words)
+    refusal, judgement, chunk, offset, delay = TABLE.receive(*words)
     if refusal:
         return f"{refusal}"
-    return f"0 judgement={judgement} chunk={chunk} offset={measured_offset} delay={measured_delay}"
+    return f"0 judgement={judgement} chunk={chunk} offset={offset} delay={delay}"
 
 
 def verdict_call(*words):

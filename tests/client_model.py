@@ -5,8 +5,8 @@ else the page has it answer; a refused call answers zeros, leaves its output buf
 """
 from dataclasses import dataclass, field
 
-from page_model import (DRAFT, DRAFT_NAME, FILTER_REQUEST, FILTER_RESPONSE, INTERLEAVED, add, delay, extension, fields,
-                        offset, positions, read_header, sound, union, write_header)
+from page_model import (DRAFT, DRAFT_NAME, FILTER_REQUEST, FILTER_RESPONSE, INTERLEAVED, add, extension, fields,
+                        measure, positions, read_header, sound, union, write_header)
 
 CHUNK_SIZES = (16, 32, 64, 128, 256, 512)
 
@@ -70,7 +70,7 @@ def request_octets(values, start, chunk_size):
 
 
 def judge(response, timescales, wanted, times):
-    """The judgement of an accepted response: `timescales` have to be `wanted`, and none of `times` 0."""
+    """The judgement of an accepted response: `timescales` have to be `wanted`, none of `times` 0, none half an era apart."""
     if response["leap"] == 3:
         return 1
     if not 1 <= response["stratum"] <= 15:
@@ -79,7 +79,7 @@ def judge(response, timescales, wanted, times):
         return 3
     if 0 in times:
         return 4
-    return 0
+    return measure(*times)[0]
 
 
 class Table:
@@ -166,7 +166,8 @@ class Table:
         chunk = place.take(request.offset, datagram)
         if judgement:
             return 0, judgement, chunk, 0, 0
-        return 0, 0, chunk, offset(*times), delay(*times)
+        _, offset, delay = measure(*times)
+        return 0, 0, chunk, offset, delay
 
     def verdict(self, association, identifier):
         refusal = self.refusal(association, len(identifier) == 15)

@@ -113,14 +113,16 @@ def weight(filter_octets):
 
 
 def difference(a, b):
-    """Modulo 2^64, read as the whole number from -2^63 to 2^63 - 1."""
+    """Modulo 2^64, read as the whole number from -(2^63 - 1) to 2^63 - 1; None for 2^63, half an era, which has no sign."""
     d = (a - b) % 2 ** 64
-    return d - 2 ** 64 if d >= 2 ** 63 else d
+    if d == 2 ** 63:
+        return None
+    return d - 2 ** 64 if d > 2 ** 63 else d
 
 
-def offset(t1, t2, t3, t4):
-    return (difference(t2, t1) + difference(t3, t4)) // 2      # // rounds toward minus infinity
-
-
-def delay(t1, t2, t3, t4):
-    return abs(difference(t4, t1) - difference(t3, t2))
+def measure(t1, t2, t3, t4):
+    """Judgement 0 with offset and delay, or 5 and zeros if any of the four differences is half an era."""
+    outward, back, whole, inside = difference(t2, t1), difference(t3, t4), difference(t4, t1), difference(t3, t2)
+    if None in (outward, back, whole, inside):
+        return 5, 0, 0
+    return 0, (outward + back) // 2, abs(whole - inside)       # // rounds toward minus infinity

@@ -119,6 +119,13 @@ def main():
     story.note("We follow the clock alone. Published is its filter with our own ID added, so that others can see us in it.")
     print(f"publish 1 {text_of(OWN)} 00*512")
 
+    story.note("The neighbour's clock died and is half an era off, 68 years. Is it ahead or behind? A difference of 2^63 has no sign:",
+               "judgement 5, with offset and delay 0. The answer is accepted all the same, and its chunk taken (1).")
+    turn = start + 64 * SECOND
+    theirs = story.poll(1, 0xD3, t1=turn)
+    second = story.answer(theirs, turn + 2 ** 63, turn + 2 ** 63 + 16, 0, looping)
+    story.receive(1, turn + 100, second)
+
     story.note("Bad input is refused with its number: 47 octets (1), a field length of 3 (4), padding that is not zero (5).")
     print("sound 4 2c00*46")
     print("sound 4 2c00*47,f5010003")

@@ -8,6 +8,8 @@ use Rattle.c_structs.specs.declared.answers.Written.{Written}
 use Rattle.c_structs.specs.declared.answers.Received.{Received}
 use Rattle.c_structs.specs.declared.answers.Verdict.{Verdict}
 use Rattle.c_structs.specs.declared.answers.Weight.{Weight}
+use Rattle.c_structs.specs.declared.answers.Measurement as c
+use Rattle.measure.specs.declared.Measurement.{Measurement}
 
 abbrev pub writtenNumbers : Written → (out : List ℕ) → Answer
 writtenNumbers r out = record {
@@ -50,3 +52,6 @@ outcomeNumbers r out store = record { refusal = r .refusal; size = r .length; ou
 
 abbrev pub weightNumbers : Weight → ℕ × ℕ
 weightNumbers r = (r .refusal, r .weight)
+
+abbrev pub measurementNumbers : c.Measurement → Measurement
+measurementNumbers r = record { judgement = r .judgement; offset = r .offset; delay = r .delay }

@@ -9,7 +9,7 @@ ghost use mathlib.Core.List.{[]};
 ghost use Rattle.filter_weight.specs.Weighing.{numbers};
 ghost use Rattle.client.specs.Answers.{isInterleaved, polledAnswer, publishedAnswer, receivedAnswer, verdictAnswerOf};
 ghost use Rattle.responder_rules.specs.Answer.{outcome};
-ghost use Rattle.c_structs.specs.Numbers.{writtenNumbers, receivedNumbers, verdictNumbers, outcomeNumbers, weightNumbers};
+ghost use Rattle.c_structs.specs.Numbers.{writtenNumbers, receivedNumbers, verdictNumbers, outcomeNumbers, weightNumbers, measurementNumbers};
 
 // How many octets were written; 0 in a refusal.
 #[repr(C)]
@@ -18,7 +18,7 @@ pub struct Written {
     pub length: u16,
 }
 
-// A response's judgement 0 to 4, its chunk's outcome 1 to 3, and its measurement.
+// A response's judgement 0 to 5, its chunk's outcome 1 to 3, and its measurement.
 #[repr(C)]
 pub struct Received {
     pub refusal: u8,
@@ -39,6 +39,14 @@ pub struct Verdict {
 pub struct Weight {
     pub refusal: u8,
     pub weight: u16,
+}
+
+// Judgement 0 with offset and delay, or 5 and zeros.
+#[repr(C)]
+pub struct Measurement {
+    pub judgement: u8,
+    pub offset: i64,
+    pub delay: u64,
 }
 
 // C's bool for the mode that a poll wants.
@@ -132,5 +140,15 @@ pub fn of_weighing(weighing: Weighing) -> Weight
     match weighing {
         Weighing::Weight(weight) => Weight { refusal: 0, weight },
         Weighing::Refused(refusal) => Weight { refusal, weight: 0 },
+    }
+}
+
+pub fn of_measurement(measurement: measure::Measurement) -> Measurement
+    ensures { λ r. ⌜ measurementNumbers r ≡ measurement ⌝ }
+{
+    Measurement {
+        judgement: measurement.judgement,
+        offset: measurement.offset,
+        delay: measurement.delay,
     }
 }

@@ -27,7 +27,7 @@ fn main() {
         add OI %d %o\n\
         union OI %d %o\n\
         weight I %r %d\n\
-        measure qqqq %i %d\n\
+        measure qqqq %d %i %d\n\
         clear - %d\n\
         open bbh %d\n\
         close b %d\n\

@@ -1,23 +1,52 @@
 -- What holds of differences, offset and delay, whatever the timestamps.
 use mathlib.Core.Path.{_≡_}
 use mathlib.Core.Logic.{_↔_, _⊎_}
-use Prim.Native.Nat.{ℕ, _+_, _-_, _^_, _<_}
+use mathlib.Core.Option.{Option, none, some}
+use Prim.Native.Nat.{ℕ, _-_, _^_, _≤_}
 use lib.IntN.{ℤ, pos, negℤ, _+ℤ_, _-ℤ_}
 use lib.Signed.{_≤ℤ_}
-use Rattle.measure.specs.Measure.{residue, difference, halfDown, offset, delay}
+use Rattle.measure.specs.Measure.{residue, difference, halfDown, halfEra, measurement}
 
 -- the whole numbers from -2^63 to 2^63 - 1, those of a signed number of 64 bits
 abbrev pub Signed64 : ℤ → Type 0
 Signed64 z = (negℤ (pos (2 ^ 63)) ≤ℤ z) × (z ≤ℤ pos (2 ^ 63 - 1))
 
+-- those of them whose minus is one too: all but -2^63
+abbrev pub Symmetric64 : ℤ → Type 0
+Symmetric64 z = (negℤ (pos (2 ^ 63 - 1)) ≤ℤ z) × (z ≤ℤ pos (2 ^ 63 - 1))
+
 -- the difference of two timestamps is the one number in that range that is a - b modulo 2^64
 abbrev pub DifferenceExactly : Type 0
-DifferenceExactly = (a b : ℕ) (z : ℤ) → z ≡ difference a b ↔ (Signed64 z × (residue z ≡ residue (pos a -ℤ pos b)))
+DifferenceExactly = (a b : ℕ) (z : ℤ) → difference a b ≡ some z ↔ (Symmetric64 z × (residue z ≡ residue (pos a -ℤ pos b)))
 
 -- across eras: a and b are times, counted from the start of era 0 and of any sign, and a timestamp is the residue of a time; where the
 -- difference of the times is in range, it is that of their timestamps
 abbrev pub AcrossEras : Type 0
-AcrossEras = (a b : ℤ) → Signed64 (a -ℤ b) → difference (residue a) (residue b) ≡ a -ℤ b
+AcrossEras = (a b : ℤ) → Symmetric64 (a -ℤ b) → difference (residue a) (residue b) ≡ some (a -ℤ b)
+
+-- and it has no sign exactly where the times are half an era apart, and any number of eras
+abbrev pub HalfEraExactly : Type 0
+HalfEraExactly = (a b : ℤ) → difference (residue a) (residue b) ≡ none ↔ (residue (a -ℤ b) ≡ 2 ^ 63)
+
+-- the difference of b and a is minus that of a and b, half an era included
+abbrev pub minus : Option ℤ → Option ℤ
+minus none = none
+minus (some z) = some (negℤ z)
+
+abbrev pub DifferenceSymmetric : Type 0
+DifferenceSymmetric = (a b : ℕ) → difference a b ≡ minus (difference b a)
+
+-- each of a measurement's four differences counts: it is judged 5, with zeros, where one of them is half an era, and else 0
+pub record EachDifference (t1 t2 t3 t4 : ℕ) : Type 0 where
+  pub outward : difference t2 t1 ≡ none → measurement t1 t2 t3 t4 ≡ halfEra
+  pub back : difference t3 t4 ≡ none → measurement t1 t2 t3 t4 ≡ halfEra
+  pub whole : difference t4 t1 ≡ none → measurement t1 t2 t3 t4 ≡ halfEra
+  pub inside : difference t3 t2 ≡ none → measurement t1 t2 t3 t4 ≡ halfEra
+  pub signed : (difference t2 t1 ≡ none → ⊥) → (difference t3 t4 ≡ none → ⊥) → (difference t4 t1 ≡ none → ⊥) → (difference t3 t2 ≡ none → ⊥)
+      → measurement t1 t2 t3 t4 .judgement ≡ 0
+
+abbrev pub FourDifferences : Type 0
+FourDifferences = (t1 t2 t3 t4 : ℕ) → EachDifference t1 t2 t3 t4
 
 -- halved and rounded toward minus infinity: z is twice its half, or one more
 abbrev pub RoundedDown : Type 0
@@ -25,11 +54,11 @@ RoundedDown = (z : ℤ) → (z ≡ halfDown z +ℤ halfDown z) ⊎ (z ≡ halfDo
 
 -- offset and delay are exact in 64 bits
 abbrev pub OffsetExact : Type 0
-OffsetExact = (t1 t2 t3 t4 : ℕ) → Signed64 (offset t1 t2 t3 t4)
+OffsetExact = (t1 t2 t3 t4 : ℕ) → Symmetric64 (measurement t1 t2 t3 t4 .offset)
 
 abbrev pub DelayExact : Type 0
-DelayExact = (t1 t2 t3 t4 : ℕ) → delay t1 t2 t3 t4 < 2 ^ 64
+DelayExact = (t1 t2 t3 t4 : ℕ) → measurement t1 t2 t3 t4 .delay ≤ 2 ^ 64 - 2
 
--- the sum before halving is not: T1 = T4 = 1, T2 = T3 = 2^63 + 1, the timestamps of M10
+-- the sum before halving is not: T1 = T4 = 1, T2 = T3 = 2^63, the timestamps of M11
 abbrev pub SumExceeds : Type 0
-SumExceeds = Signed64 (difference (2 ^ 63 + 1) 1 +ℤ difference (2 ^ 63 + 1) 1) → ⊥
+SumExceeds = (difference (2 ^ 63) 1 ≡ some (pos (2 ^ 63 - 1))) × (Signed64 (pos (2 ^ 63 - 1) +ℤ pos (2 ^ 63 - 1)) → ⊥)

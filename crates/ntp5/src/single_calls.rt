@@ -1,5 +1,6 @@
 // The calls on one datagram, one filter or the four times of an exchange.
 use c_structs::answers;
+use c_structs::answers::Measurement;
 use c_structs::answers::Weight;
 use c_structs::headers;
 use c_structs::headers::Header;
@@ -9,8 +10,8 @@ ghost use Rattle.header.specs.Header.{refusal, reading, headerOf, written};
 ghost use Rattle.chain.specs.Chain.{soundRefusal};
 ghost use Rattle.filter.specs.Calls.{addId, unite};
 ghost use Rattle.filter_weight.specs.Weighing.{weighing, numbers};
-ghost use Rattle.measure.specs.Measure.{offset, delay};
-ghost use Rattle.c_structs.specs.Numbers.{weightNumbers};
+ghost use Rattle.measure.specs.Measure.{measurement};
+ghost use Rattle.c_structs.specs.Numbers.{weightNumbers, measurementNumbers};
 ghost use Rattle.c_structs.specs.Headers.{readOf, coreHeader};
 
 #[no_mangle]
@@ -56,15 +57,8 @@ pub extern "C" fn ntp5_filter_weight(filter: &[u8]) -> Weight
 }
 
 #[no_mangle]
-pub extern "C" fn ntp5_offset(t1: u64, t2: u64, t3: u64, t4: u64) -> i64
-    ensures { λ r. ⌜ r ≡ offset t1 t2 t3 t4 ⌝ }
+pub extern "C" fn ntp5_measure(t1: u64, t2: u64, t3: u64, t4: u64) -> Measurement
+    ensures { λ r. ⌜ measurementNumbers r ≡ measurement t1 t2 t3 t4 ⌝ }
 {
-    measure::offset(t1, t2, t3, t4)
-}
-
-#[no_mangle]
-pub extern "C" fn ntp5_delay(t1: u64, t2: u64, t3: u64, t4: u64) -> u64
-    ensures { λ r. ⌜ r ≡ delay t1 t2 t3 t4 ⌝ }
-{
-    measure::delay(t1, t2, t3, t4)
+    answers::of_measurement(measure::measure(t1, t2, t3, t4))
 }

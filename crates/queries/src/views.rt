@@ -54,12 +54,10 @@ fn call_weight(row: &[u8], filter: &[u8]) {
 
 // measure T1 T2 T3 T4
 fn call_measure(row: &[u8], t1: u64, t2: u64, t3: u64, t4: u64) {
+    let m = measure::measure(t1, t2, t3, t4);
     print::line(
         row,
-        &[
-            from_i64(measure::offset(t1, t2, t3, t4)),
-            measure::delay(t1, t2, t3, t4),
-        ],
+        &[from_u8(m.judgement), from_i64(m.offset), m.delay],
         row,
     );
 }

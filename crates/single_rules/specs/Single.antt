@@ -1,5 +1,5 @@
--- The calls on one datagram or one filter as one step, by the definitions that their contracts cite. Offset and delay are not among them:
--- they have no refusal.
+-- The calls on one datagram or one filter as one step, by the definitions that their contracts cite. The measurement is not among them:
+-- it has no refusal.
 use mathlib.Core.List.{List, []}
 use mathlib.Core.Option.{Option, none, some}
 use Prim.Native.Nat.{ℕ}

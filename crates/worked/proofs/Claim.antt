@@ -6,9 +6,13 @@ use Rattle.header.specs.Header.{headerOctets, refusal}
 use Rattle.chain.specs.Chain.{allZero, stepAt, walkFor, walk, chainRefusal, soundRefusal}
 use Rattle.filter.specs.Positions.{positions}
 use Rattle.filter.specs.Filter.{addAll, countBelow}
-use Rattle.measure.specs.Measure.{difference, offset, delay}
-use Rattle.worked.specs.Cases.{bare, request, tableFor, same, allSame, agree, Worked}
+use Rattle.measure.specs.Measure.{difference, measurement}
+use Rattle.worked.specs.Cases.{bare, request, tableFor, same, allSame, agree, Worked, halfEraFor, HalfEraWorked}
 
 pub worked : Worked
-unfolding num octets spelled headerOctets refusal allZero stepAt walkFor walk chainRefusal soundRefusal positions addAll countBelow difference offset delay bare request tableFor same allSame agree
+unfolding num octets spelled headerOctets refusal allZero stepAt walkFor walk chainRefusal soundRefusal positions addAll countBelow difference measurement bare request tableFor same allSame agree
 worked = refl
+
+pub half-era-worked : HalfEraWorked
+unfolding difference measurement same allSame agree halfEraFor
+half-era-worked = refl

@@ -11,7 +11,8 @@ use lib.ListN.{length, getD, replicate}
 use Rattle.filter.specs.Positions.{positions}
 use Rattle.filter.specs.Filter.{freshFilter, ofId, weight}
 use Rattle.filter.proofs.Adding.{length-addAll, length-fresh}
-use Rattle.worked.specs.Cases.{Row, M, Measurement, ourMeasurement, WeightFunction, tableFor, same, allSame, valuesSaid, agree, WorkedFor}
+use Rattle.measure.specs.Measure.{measurement}
+use Rattle.worked.specs.Cases.{Row, M, MeasurementFunction, WeightFunction, tableFor, same, allSame, valuesSaid, agree, WorkedFor}
 use Rattle.worked.specs.Idle.{fixedAnswer, OneOffset, OneDelay, fixedWeight, oneMore, WeightFor, IdleRejected}
 use Rattle.worked.proofs.Claim.{worked}
 
@@ -53,7 +54,12 @@ two-same x y p q e =
     let h = and-eq-true-iff (same x p) (same y q && true) .0 e in
     (same-eq x p (h .0), same-eq y q (and-eq-true-iff (same y q) true .0 (h .1) .0))
 
-module _ (m : Measurement) (w : WeightFunction) (e : WorkedFor m w) where
+-- and without its first
+rest-same : (x y : ℤ) (xs ys : List ℤ) → allSame (x ∷ xs) (y ∷ ys) ≡ true → allSame xs ys ≡ true
+unfolding allSame
+rest-same x y xs ys e = and-eq-true-iff (same x y) (allSame xs ys) .0 e .1
+
+module _ (m : MeasurementFunction) (w : WeightFunction) (e : WorkedFor m w) where
   m5 : pos (w (ofId (replicate 15 0))) ≡ pos 1
   unfolding tableFor
   m5 = two-same _ _ _ _ (agree-at 1 valuesSaid (tableFor m w) 4 e) .1
@@ -62,24 +68,24 @@ module _ (m : Measurement) (w : WeightFunction) (e : WorkedFor m w) where
   unfolding tableFor
   m7 = two-same _ _ _ _ (agree-at 1 valuesSaid (tableFor m w) 6 e) .1
 
-  m8 : (m 0xFFFFFFFF00000000 0x80000000 0x80000000 0x100000000 .0 ≡ pos 2147483648)
-      × (pos (m 0xFFFFFFFF00000000 0x80000000 0x80000000 0x100000000 .1) ≡ pos 8589934592)
+  m8 : (m 0xFFFFFFFF00000000 0x80000000 0x80000000 0x100000000 .offset ≡ pos 2147483648)
+      × (pos (m 0xFFFFFFFF00000000 0x80000000 0x80000000 0x100000000 .delay) ≡ pos 8589934592)
   unfolding tableFor
-  m8 = two-same _ _ _ _ (agree-at 1 valuesSaid (tableFor m w) 7 e)
+  m8 = two-same _ _ _ _ (rest-same _ _ _ _ (agree-at 1 valuesSaid (tableFor m w) 7 e))
 
-  m9 : (m 10 10 10 11 .0 ≡ negsuc 0) × (pos (m 10 10 10 11 .1) ≡ pos 1)
+  m9 : (m 10 10 10 11 .offset ≡ negsuc 0) × (pos (m 10 10 10 11 .delay) ≡ pos 1)
   unfolding tableFor
-  m9 = two-same _ _ _ _ (agree-at 1 valuesSaid (tableFor m w) 8 e)
+  m9 = two-same _ _ _ _ (rest-same _ _ _ _ (agree-at 1 valuesSaid (tableFor m w) 8 e))
 
 -- ---- one fixed answer
 
-one-offset : (x : ℤ) (m : Measurement) (w : WeightFunction) → OneOffset x m → WorkedFor m w → ⊥
+one-offset : (x : ℤ) (m : MeasurementFunction) (w : WeightFunction) → OneOffset x m → WorkedFor m w → ⊥
 one-offset x m w h e =
     let z : pos 2147483648 ≡ negsuc 0 = sym (m8 m w e .0) ∙ h _ _ _ _ ∙ sym (h _ _ _ _) ∙ m9 m w e .0 in
     let f : _≡_ {A = ℕ} 0 1 = cc in
     omega arith
 
-one-delay : (n : ℕ) (m : Measurement) (w : WeightFunction) → OneDelay n m → WorkedFor m w → ⊥
+one-delay : (n : ℕ) (m : MeasurementFunction) (w : WeightFunction) → OneDelay n m → WorkedFor m w → ⊥
 one-delay n m w h e =
     let z : pos 8589934592 ≡ pos 1 = sym (m8 m w e .1) ∙ ap pos (h _ _ _ _ ∙ sym (h _ _ _ _)) ∙ m9 m w e .1 in
     let f : _≡_ {A = ℕ} 8589934592 1 = cc in
@@ -87,7 +93,7 @@ one-delay n m w h e =
 
 -- ---- an invented weight
 
-fixed-weight-worked : (n : ℕ) (m : Measurement) → WorkedFor m (fixedWeight n) → ⊥
+fixed-weight-worked : (n : ℕ) (m : MeasurementFunction) → WorkedFor m (fixedWeight n) → ⊥
 fixed-weight-worked n m e =
     let z : pos 1 ≡ pos 3 = sym (m5 m (fixedWeight n) e) ∙ m7 m (fixedWeight n) e in
     let f : _≡_ {A = ℕ} 1 3 = cc in
@@ -98,7 +104,7 @@ fixed-weight : (n : ℕ) → WeightFor (fixedWeight n) → ⊥
 fixed-weight n d =
     let at : (id : List ℕ) → n ≡ weight (ofId id) = λ id. d (ofId id) (length-addAll freshFilter (positions id) ∙ length-fresh) in
     let z : pos 1 ≡ pos 3 =
-    sym (m5 ourMeasurement weight worked) ∙ ap pos (sym (at (replicate 15 0)) ∙ at (0x00 ∷ 0x10 ∷ 0x02 ∷ replicate 12 0)) ∙ m7 ourMeasurement weight worked in
+    sym (m5 measurement weight worked) ∙ ap pos (sym (at (replicate 15 0)) ∙ at (0x00 ∷ 0x10 ∷ 0x02 ∷ replicate 12 0)) ∙ m7 measurement weight worked in
     let f : _≡_ {A = ℕ} 1 3 = cc in
     omega arith
 
@@ -110,11 +116,11 @@ next-not n v e f =
 
 pub idle-rejected : IdleRejected
 idle-rejected = record {
-  fixed-answer = λ x n w. one-offset x (fixedAnswer x n) w (λ t1 t2 t3 t4. refl);
+  fixed-answer = λ a w. one-offset (a .offset) (fixedAnswer a) w (λ t1 t2 t3 t4. refl);
   one-offset = one-offset;
   one-delay = one-delay;
   fixed-weight = fixed-weight;
   one-more = λ d. omega (arith, d freshFilter length-fresh);
   fixed-weight-worked = fixed-weight-worked;
-  one-more-worked = λ m e. next-not (weight (ofId (replicate 15 0))) 1 (m5 m oneMore e) (m5 ourMeasurement weight worked);
+  one-more-worked = λ m e. next-not (weight (ofId (replicate 15 0))) 1 (m5 m oneMore e) (m5 measurement weight worked);
 }

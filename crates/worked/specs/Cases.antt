@@ -12,7 +12,8 @@ use Rattle.header.specs.declared.Header.{Header}
 use Rattle.chain.specs.Chain.{soundRefusal}
 use Rattle.field_role.specs.Role.{goodRequest}
 use Rattle.filter.specs.Filter.{ofId, weight}
-use Rattle.measure.specs.Measure.{offset, delay}
+use Rattle.measure.specs.Measure.{measurement}
+use Rattle.measure.specs.declared.Measurement.{Measurement}
 
 pub record Row : Type 0 where
   pub case : ℕ
@@ -56,12 +57,9 @@ padding n = octets 2 0xF501 ++ octets 2 n
 abbrev pub refusalOf : List ℕ → ℤ
 refusalOf s = pos (soundRefusal s 3)
 
--- a measurement gives offset and delay; ours, and any other that the table may be asked of
-abbrev pub Measurement : Type 0
-Measurement = (t1 t2 t3 t4 : ℕ) → ℤ × ℕ
-
-abbrev pub ourMeasurement : Measurement
-ourMeasurement t1 t2 t3 t4 = (offset t1 t2 t3 t4, delay t1 t2 t3 t4)
+-- a measurement gives judgement, offset and delay: ours, and any other that the table may be asked of
+abbrev pub MeasurementFunction : Type 0
+MeasurementFunction = (t1 t2 t3 t4 : ℕ) → Measurement
 
 -- and so for the weight of a filter
 abbrev pub WeightFunction : Type 0
@@ -71,14 +69,14 @@ WeightFunction = List ℕ → ℕ
 abbrev pub filtered : WeightFunction → List ℕ → ℕ → List ℤ
 filtered w id k = pos (getD (ofId id) k 0) ∷ pos (w (ofId id)) ∷ []
 
-abbrev pub measured : Measurement → (t1 t2 t3 t4 : ℕ) → List ℤ
-measured m t1 t2 t3 t4 = m t1 t2 t3 t4 .0 ∷ pos (m t1 t2 t3 t4 .1) ∷ []
+abbrev pub measured : MeasurementFunction → (t1 t2 t3 t4 : ℕ) → List ℤ
+measured m t1 t2 t3 t4 = pos (m t1 t2 t3 t4 .judgement) ∷ m t1 t2 t3 t4 .offset ∷ pos (m t1 t2 t3 t4 .delay) ∷ []
 
 -- 1 for a good filter request, 0 for an unknown field
 abbrev pub good : ℕ → ℕ → ℤ
 good at n = pos (cond (goodRequest at n) 1 0)
 
-unfoldable pub tableFor : Measurement → WeightFunction → List Row
+unfoldable pub tableFor : MeasurementFunction → WeightFunction → List Row
 tableFor m w =
     M 1 (firstOctet 0 3 ∷ firstOctet 0 4 ∷ firstOctet 3 4 ∷ []) (pos 0x2B ∷ pos 0x2C ∷ pos 0xEC ∷ [])
     ∷ M 2 (
@@ -94,10 +92,10 @@ tableFor m w =
     ∷ M 5 (filtered w (replicate 15 0) 0) (pos 0x01 ∷ pos 1 ∷ [])
     ∷ M 6 (filtered w (replicate 15 0xFF) 511) (pos 0x80 ∷ pos 1 ∷ [])
     ∷ M 7 (filtered w (0x00 ∷ 0x10 ∷ 0x02 ∷ replicate 12 0) 0) (pos 0x07 ∷ pos 3 ∷ [])
-    ∷ M 8 (measured m 0xFFFFFFFF00000000 0x80000000 0x80000000 0x100000000) (pos 2147483648 ∷ pos 8589934592 ∷ [])
-    ∷ M 9 (measured m 10 10 10 11) (negℤ (pos 1) ∷ pos 1 ∷ [])
-    ∷ M 10 (measured m 1 (2 ^ 63 + 1) (2 ^ 63 + 1) 1) (negℤ (pos (2 ^ 63)) ∷ pos 0 ∷ [])
-    ∷ M 11 (measured m 1 (2 ^ 63) (2 ^ 63) 1) (pos (2 ^ 63 - 1) ∷ pos 0 ∷ [])
+    ∷ M 8 (measured m 0xFFFFFFFF00000000 0x80000000 0x80000000 0x100000000) (pos 0 ∷ pos 2147483648 ∷ pos 8589934592 ∷ [])
+    ∷ M 9 (measured m 10 10 10 11) (pos 0 ∷ negℤ (pos 1) ∷ pos 1 ∷ [])
+    ∷ M 10 (measured m 1 (2 ^ 63 + 1) (2 ^ 63 + 1) 1) (pos 5 ∷ pos 0 ∷ pos 0 ∷ [])
+    ∷ M 11 (measured m 1 (2 ^ 63) (2 ^ 63) 1) (pos 0 ∷ pos (2 ^ 63 - 1) ∷ pos 0 ∷ [])
     ∷ M 12 (good 508 4 ∷ good 508 8 ∷ []) (pos 1 ∷ pos 0 ∷ [])
     ∷ []
 
@@ -115,7 +113,7 @@ allSame (x ∷ xs) (y ∷ ys) = same x y && allSame xs ys
 
 -- how many values the page says in each of its cases M1 to M12
 abbrev pub valuesSaid : List ℕ
-valuesSaid = 3 ∷ 5 ∷ 1 ∷ 1 ∷ 2 ∷ 2 ∷ 2 ∷ 2 ∷ 2 ∷ 2 ∷ 2 ∷ 2 ∷ []
+valuesSaid = 3 ∷ 5 ∷ 1 ∷ 1 ∷ 2 ∷ 2 ∷ 2 ∷ 3 ∷ 3 ∷ 3 ∷ 3 ∷ 2 ∷ []
 
 -- the rows are the cases from n on, none missing and none out of order, each with as many values, and in each the definitions give what
 -- the page says
@@ -126,8 +124,31 @@ agree n (k ∷ ks) [] = false
 agree n (k ∷ ks) (r ∷ rs) = eqb (r .case) n && eqb (length (r .says)) k && allSame (r .gives) (r .says) && agree (suc n) ks rs
 
 -- the claim, of any measurement and weight, and of ours
-abbrev pub WorkedFor : Measurement → WeightFunction → Type 0
+abbrev pub WorkedFor : MeasurementFunction → WeightFunction → Type 0
 WorkedFor m w = agree 1 valuesSaid (tableFor m w) ≡ true
 
 abbrev pub Worked : Type 0
-Worked = WorkedFor ourMeasurement weight
+Worked = WorkedFor measurement weight
+
+-- Document 02, W-206: row 1 has each of T2-T1, T3-T4, T4-T1 and T3-T2 half an era alone, row 2 differences of 2^63 - 1, row 3 of -(2^63 - 1):
+-- the largest and the smallest offset, and the largest delay
+unfoldable pub halfEraFor : MeasurementFunction → List Row
+halfEraFor m =
+    M 1 (
+    measured m 1 (2 ^ 63 + 1) (2 ^ 63 + 3) 5
+    ++ measured m 1 (2 ^ 63 + 3) (2 ^ 63 + 5) 5
+    ++ measured m 1 3 5 (2 ^ 63 + 1)
+    ++ measured m 1 3 (2 ^ 63 + 3) 9
+    ) (pos 5 ∷ pos 0 ∷ pos 0 ∷ pos 5 ∷ pos 0 ∷ pos 0 ∷ pos 5 ∷ pos 0 ∷ pos 0 ∷ pos 5 ∷ pos 0 ∷ pos 0 ∷ [])
+    ∷ M 2 (
+    measured m 1 (2 ^ 63) (2 ^ 63) 1
+    ++ measured m 1 1 (2 ^ 63 + 2) (2 ^ 63)
+    ) (pos 0 ∷ pos (2 ^ 63 - 1) ∷ pos 0 ∷ pos 0 ∷ pos 1 ∷ pos (2 ^ 64 - 2) ∷ [])
+    ∷ M 3 (
+    measured m (2 ^ 63) 1 1 (2 ^ 63)
+    ++ measured m (2 ^ 63) (2 ^ 63 + 2) 1 1
+    ) (pos 0 ∷ negℤ (pos (2 ^ 63 - 1)) ∷ pos 0 ∷ pos 0 ∷ pos 1 ∷ pos (2 ^ 64 - 2) ∷ [])
+    ∷ []
+
+abbrev pub HalfEraWorked : Type 0
+HalfEraWorked = agree 1 (12 ∷ 6 ∷ 6 ∷ []) (halfEraFor measurement) ≡ true

@@ -5,19 +5,20 @@ use Prim.Native.Nat.{ℕ, _+_}
 use lib.IntN.{ℤ}
 use lib.ListN.{length}
 use Rattle.filter.specs.Filter.{weight}
-use Rattle.worked.specs.Cases.{Measurement, WeightFunction, WorkedFor}
+use Rattle.measure.specs.declared.Measurement.{Measurement}
+use Rattle.worked.specs.Cases.{MeasurementFunction, WeightFunction, WorkedFor}
 
 -- ONE FIXED ANSWER
 
-abbrev pub fixedAnswer : ℤ → ℕ → Measurement
-fixedAnswer x n t1 t2 t3 t4 = (x, n)
+abbrev pub fixedAnswer : Measurement → MeasurementFunction
+fixedAnswer a t1 t2 t3 t4 = a
 
 -- a measurement with one offset, whatever its delay, and one with one delay, whatever its offset
-abbrev pub OneOffset : ℤ → Measurement → Type 0
-OneOffset x m = (t1 t2 t3 t4 : ℕ) → m t1 t2 t3 t4 .0 ≡ x
+abbrev pub OneOffset : ℤ → MeasurementFunction → Type 0
+OneOffset x m = (t1 t2 t3 t4 : ℕ) → m t1 t2 t3 t4 .offset ≡ x
 
-abbrev pub OneDelay : ℕ → Measurement → Type 0
-OneDelay n m = (t1 t2 t3 t4 : ℕ) → m t1 t2 t3 t4 .1 ≡ n
+abbrev pub OneDelay : ℕ → MeasurementFunction → Type 0
+OneDelay n m = (t1 t2 t3 t4 : ℕ) → m t1 t2 t3 t4 .delay ≡ n
 
 -- AN INVENTED WEIGHT
 
@@ -36,12 +37,12 @@ WeightFor w = (f : List ℕ) → length f ≡ 512 → w f ≡ weight f
 
 pub record IdleRejected : Type 0 where
   -- M8 against M9, whatever the weight
-  pub fixed-answer : (x : ℤ) (n : ℕ) (w : WeightFunction) → WorkedFor (fixedAnswer x n) w → ⊥
-  pub one-offset : (x : ℤ) (m : Measurement) (w : WeightFunction) → OneOffset x m → WorkedFor m w → ⊥
-  pub one-delay : (n : ℕ) (m : Measurement) (w : WeightFunction) → OneDelay n m → WorkedFor m w → ⊥
+  pub fixed-answer : (a : Measurement) (w : WeightFunction) → WorkedFor (fixedAnswer a) w → ⊥
+  pub one-offset : (x : ℤ) (m : MeasurementFunction) (w : WeightFunction) → OneOffset x m → WorkedFor m w → ⊥
+  pub one-delay : (n : ℕ) (m : MeasurementFunction) (w : WeightFunction) → OneDelay n m → WorkedFor m w → ⊥
   -- weight's definition
   pub fixed-weight : (n : ℕ) → WeightFor (fixedWeight n) → ⊥
   pub one-more : WeightFor oneMore → ⊥
   -- and the cases, whatever the measurement: M5 against M7, and M5
-  pub fixed-weight-worked : (n : ℕ) (m : Measurement) → WorkedFor m (fixedWeight n) → ⊥
-  pub one-more-worked : (m : Measurement) → WorkedFor m oneMore → ⊥
+  pub fixed-weight-worked : (n : ℕ) (m : MeasurementFunction) → WorkedFor m (fixedWeight n) → ⊥
+  pub one-more-worked : (m : MeasurementFunction) → WorkedFor m oneMore → ⊥

@@ -49,7 +49,7 @@ pub enum Returned {
     Verdict(ffi::Verdict),
     Weight(ffi::Weight),
     Read(ffi::Read),
-    Measured { offset: i64, delay: u64 },
+    Measurement(ffi::Measurement),
 }
 
 impl Returned {
@@ -62,7 +62,7 @@ impl Returned {
             Returned::Verdict(verdict) => verdict.refusal,
             Returned::Weight(weight) => weight.refusal,
             Returned::Read(read) => read.refusal,
-            Returned::Measured { .. } => 0,
+            Returned::Measurement(_) => 0,
         }
     }
 }

@@ -3,8 +3,9 @@
 use crate::call::{Answering, Returned};
 use ntp5::ffi;
 use reference::association::Verdict;
-use reference::exchange::{Mode, Received};
+use reference::exchange::{Judgement, Mode, Received};
 use reference::header::{ClientCookie, Header, ServerCookie};
+use reference::measure::Measured;
 use reference::refusal::Refusal;
 use reference::responder::{Occasion, Server};
 
@@ -43,6 +44,14 @@ pub(crate) fn received(result: Result<Received, Refusal>) -> Returned {
         Err(refusal) => {
             ffi::Received { refusal: refusal.number(), judgement: 0, chunk: 0, offset: 0, delay: 0 }
         }
+    })
+}
+
+/// The answer of measure.
+pub(crate) fn measurement(measured: Option<Measured>) -> Returned {
+    Returned::Measurement(match measured {
+        Some(Measured { offset, delay }) => ffi::Measurement { judgement: 0, offset, delay },
+        None => ffi::Measurement { judgement: Judgement::HalfEra as u8, offset: 0, delay: 0 },
     })
 }
 

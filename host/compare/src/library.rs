@@ -175,9 +175,8 @@ impl Library {
             Call::Weight { filter } => self
                 .lend(filter, &[], |_, filter, _| Returned::Weight(calls::filter_weight(filter))),
             &Call::Measure { times: [t1, t2, t3, t4] } => {
-                let offset = calls::offset(t1, t2, t3, t4);
-                let delay = calls::delay(t1, t2, t3, t4);
-                Outcome::new(Returned::Measured { offset, delay }, Vec::new())
+                let returned = Returned::Measurement(calls::measure(t1, t2, t3, t4));
+                Outcome::new(returned, Vec::new())
             }
             _ => unreachable!("a call on a table or a store"),
         }

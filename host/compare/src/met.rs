@@ -74,7 +74,7 @@ fn name(call: &Call) -> &'static str {
 }
 
 /// Whether the flag is set in a datagram's header.
-fn interleaved(datagram: &[u8]) -> &'static str {
+pub fn interleaved(datagram: &[u8]) -> &'static str {
     if u16::from_be_bytes([datagram[6], datagram[7]]) & INTERLEAVED != 0 {
         "interleaved"
     } else {
@@ -102,8 +102,23 @@ fn described(call: &Call, outcome: &Outcome) -> String {
         (Call::Answer(args), _) => {
             format!("0 {} to {}", interleaved(&outcome.out), interleaved(&args.request))
         }
+        (&Call::Measure { times }, Returned::Measurement(measurement)) => {
+            let judgement = measurement.judgement;
+            half_era_alone(times).map_or(judgement.to_string(), |d| format!("{judgement} {d}"))
+        }
         _ => "0".into(),
     }
+}
+
+/// The four differences of a measurement.
+const DIFFERENCES: [&str; 4] = ["T2-T1", "T3-T4", "T4-T1", "T3-T2"];
+
+/// The one of the four differences that is half an era, if it is one alone.
+pub fn half_era_alone([t1, t2, t3, t4]: [u64; 4]) -> Option<&'static str> {
+    let differences = [(t2, t1), (t3, t4), (t4, t1), (t3, t2)];
+    let half = |&i: &usize| differences[i].0.wrapping_sub(differences[i].1) == 1 << 63;
+    let mut found = (0..4).filter(half).map(|i| DIFFERENCES[i]);
+    found.next().filter(|_| found.next().is_none())
 }
 
 /// The refusals of each call, with 0 where success has no further outcomes.
@@ -150,19 +165,21 @@ const OUTCOMES: [&str; 18] = [
     "also: answer from a full row, interleaved",
 ];
 
-/// Every refusal of every call, every judgement with every chunk outcome, every verdict,
-/// 6 for every clause of a head's rule.
+/// Every refusal of every call, every judgement with every chunk outcome, half an era in each
+/// of the four differences, every verdict, 6 for every clause of a head's rule.
 fn required() -> Vec<String> {
     let mut required: Vec<String> = OUTCOMES.map(String::from).to_vec();
     for (call, numbers) in REFUSALS {
         required.extend(numbers.iter().map(|number| format!("{call} {number}")));
     }
     for mode in ["basic", "interleaved"] {
-        for judgement in 0..=4 {
+        for judgement in 0..=5 {
             let chunk = |chunk| format!("receive 0 {mode} judgement {judgement} chunk {chunk}");
             required.extend((1..=3).map(chunk));
         }
+        required.extend(DIFFERENCES.map(|d| format!("also: half an era in {d} alone, {mode}")));
     }
+    required.extend(DIFFERENCES.map(|d| format!("measure 5 {d}")));
     for clause in Clause::ALL {
         required.push(format!("also: head out of range: {clause:?}"));
     }

@@ -2,7 +2,7 @@
 
 use crate::call::{Call, Outcome, Returned, Side};
 use crate::convert::{
-    arguments, from_ffi, mode, plainly, read, received, verdict, weight, written,
+    arguments, from_ffi, measurement, mode, plainly, read, received, verdict, weight, written,
 };
 use reference::chain;
 use reference::filter;
@@ -50,8 +50,7 @@ fn single(call: &Call, out: &mut [u8]) -> Returned {
         Call::Union { other, .. } => plainly(filter::union(out, other)),
         Call::Weight { filter } => weight(filter::weight(filter)),
         &Call::Measure { times: [t1, t2, t3, t4] } => {
-            let times = Times { t1, t2, t3, t4 };
-            Returned::Measured { offset: times.offset(), delay: times.delay() }
+            measurement(Times { t1, t2, t3, t4 }.measure())
         }
         _ => unreachable!("a call on a table or a store"),
     }

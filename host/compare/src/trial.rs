@@ -6,10 +6,11 @@ use crate::line;
 use crate::make;
 use crate::make::head::Clause;
 use crate::make::lent::Broken;
-use crate::met::Met;
+use crate::met::{self, Met};
 use crate::plain::{Lent, Plain};
 use crate::random::Random;
 use crate::reorder;
+use reference::header::{Header, RESPONSE};
 
 /// One list of calls on the sides that are compared.
 struct Trial {
@@ -92,7 +93,8 @@ fn reached(kind: Kind, random: &mut Random, keep: bool, met: &mut Met) -> Result
         };
         let before = plain.clone();
         let outcome = trial.compare(&call, &mut plain, met)?;
-        if let Some(what) = noted(&call, &outcome, &before, records) {
+        let half_era = half_era(&call, &outcome, &before);
+        for what in [noted(&call, &outcome, &before, records), half_era].into_iter().flatten() {
             met.also(&what);
         }
     }
@@ -116,6 +118,26 @@ fn noted(call: &Call, outcome: &Outcome, before: &Plain, records: usize) -> Opti
         }
         _ => None,
     }
+}
+
+/// The one difference for which a response was judged 5.
+fn half_era(call: &Call, outcome: &Outcome, before: &Plain) -> Option<String> {
+    let (Call::Receive { association, datagram, t4 }, Returned::Received(received)) =
+        (call, outcome.returned)
+    else {
+        return None;
+    };
+    let place = before.table.places.get(usize::from(*association))?;
+    let open = place.0.as_ref().filter(|_| received.judgement == 5)?;
+    let header = Header::read(datagram, RESPONSE).ok()?;
+    let times = if header.interleaved() {
+        let saved = open.saved?.times;
+        [saved.t1, saved.t2, header.transmit, saved.t4]
+    } else {
+        [open.outstanding?.t1, header.receive, header.transmit, *t4]
+    };
+    let alone = met::half_era_alone(times)?;
+    Some(format!("half an era in {alone} alone, {}", met::interleaved(datagram)))
 }
 
 /// A few calls on any octets.

@@ -2,7 +2,7 @@
 #![forbid(unsafe_code)]
 
 use crate::ffi::calls;
-use crate::{ClientCookie, Filter, ReferenceId, Refusal};
+use crate::{ClientCookie, Filter, Measured, ReferenceId, Refusal, Unusable};
 
 /// What a poll asks for.
 #[derive(Clone, Copy, Debug, PartialEq, Eq, Hash)]
@@ -11,29 +11,6 @@ pub enum Mode {
     Basic,
     /// The transmit timestamp of the exchange before, as measured by the server.
     Interleaved,
-}
-
-/// A measurement, in units of 2^-32 s.
-#[derive(Clone, Copy, Debug, PartialEq, Eq, Hash)]
-pub struct Measured {
-    /// How far the server's clock is ahead.
-    pub offset: i64,
-    /// The time that the datagrams were on their way.
-    pub delay: u64,
-}
-
-/// Why an accepted response is of no use for the clock.
-#[derive(Clone, Copy, Debug, PartialEq, Eq, Hash)]
-#[repr(u8)]
-pub enum Unusable {
-    /// Its leap is 3.
-    Leap = 1,
-    /// Its stratum is not 1 to 15.
-    Stratum = 2,
-    /// Its timescale, or that of the exchange measured, is not the association's.
-    Timescale = 3,
-    /// A timestamp that the measurement needs is unknown.
-    Timestamp = 4,
 }
 
 /// What became of a response's filter chunk.
@@ -144,14 +121,7 @@ impl<B: AsRef<[u8]> + AsMut<[u8]>> Table<B> {
     ) -> Result<Received, Refusal> {
         let returned = calls::receive(self.0.as_mut(), association, datagram, t4);
         Refusal::check(returned.refusal)?;
-        let measured = match returned.judgement {
-            0 => Ok(Measured { offset: returned.offset, delay: returned.delay }),
-            1 => Err(Unusable::Leap),
-            2 => Err(Unusable::Stratum),
-            3 => Err(Unusable::Timescale),
-            4 => Err(Unusable::Timestamp),
-            other => unreachable!("judgement {other}"),
-        };
+        let measured = Measured::judged(returned.judgement, returned.offset, returned.delay);
         let chunk = match returned.chunk {
             1 => Chunk::Taken,
             2 => Chunk::Absent,

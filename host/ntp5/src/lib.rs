@@ -23,9 +23,9 @@ mod responder;
 #[doc = include_str!("../../../README.md")]
 struct Readme;
 
-pub use client::{Chunk, Measured, Mode, Received, Table, Unusable, Verdict};
+pub use client::{Chunk, Mode, Received, Table, Verdict};
 pub use filter::{Filter, ReferenceId};
 pub use header::{sound, ClientCookie, Header, ServerCookie, INTERLEAVED, REQUEST, RESPONSE};
-pub use measure::Times;
+pub use measure::{Measured, Times, Unusable};
 pub use refusal::Refusal;
 pub use responder::{Occasion, Server, Store};

@@ -75,6 +75,7 @@ fn unusable_responses() -> Result<(), Refusal> {
         (Header { stratum: 16, ..header }, Unusable::Stratum),
         (Header { timescale: 9, ..header }, Unusable::Timescale),
         (Header { transmit: 0, ..header }, Unusable::Timestamp),
+        (Header { transmit: 5 + (1 << 63), ..header }, Unusable::HalfEra),
     ] {
         let (mut table, mut out) = (Table::new(), [0; 100]);
         table.open(0, 0, 16)?;
@@ -123,7 +124,9 @@ fn filters_and_times() {
     filter.unite(&other);
     assert_eq!((filter.0[0], filter.0[511], filter.weight()), (0x01, 0x80, 2));
     let times = Times { t1: 10, t2: 10, t3: 10, t4: 11 };
-    assert_eq!((times.offset(), times.delay()), (-1, 1));
+    assert_eq!(times.measure(), Ok(Measured { offset: -1, delay: 1 }));
+    let times = Times { t4: 10 + (1 << 63), ..times };
+    assert_eq!(times.measure(), Err(Unusable::HalfEra));
 }
 
 #[test]

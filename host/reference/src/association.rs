@@ -4,7 +4,7 @@ use crate::exchange::{judge, poll_octets, write_poll};
 use crate::exchange::{Chunk, Judgement, Mode, Received, Request, Response, Saved};
 use crate::filter::{Filter, ReferenceId, OCTETS};
 use crate::header::ClientCookie;
-use crate::measure::Times;
+use crate::measure::{Measured, Times};
 use crate::refusal::Refusal;
 
 /// The chunk sizes that are offered.
@@ -145,20 +145,18 @@ impl Association {
         // A request with a server cookie was made from a saved response.
         let previous = self.saved.as_ref().filter(|_| header.interleaved());
         let times = previous.map_or(basic, |saved| Times { t3: header.transmit, ..saved.times });
-        let judgement = judge(&header, self.timescale, previous, &times);
-        let usable = judgement == Judgement::Usable;
+        let (judgement, Measured { offset, delay }) =
+            match judge(&header, self.timescale, previous, &times) {
+                Ok(measured) => (Judgement::Usable, measured),
+                Err(why) => (why, Measured { offset: 0, delay: 0 }),
+            };
         self.outstanding = None;
         self.saved = Some(Saved {
             timescale: header.timescale,
             times: basic,
             server_cookie: header.server_cookie,
         });
-        Ok(Received {
-            judgement,
-            chunk: self.take(request.offset.into(), chunk),
-            offset: if usable { times.offset() } else { 0 },
-            delay: if usable { times.delay() } else { 0 },
-        })
+        Ok(Received { judgement, chunk: self.take(request.offset.into(), chunk), offset, delay })
     }
 
     /// Puts a response's chunk at the offset that its request asked.

@@ -2,7 +2,7 @@
 
 use crate::chain::{self, Fields, FILTER_REQUEST, FILTER_RESPONSE, NAME};
 use crate::header::{self, ClientCookie, Header, ServerCookie, INTERLEAVED, REQUEST, RESPONSE};
-use crate::measure::Times;
+use crate::measure::{Measured, Times};
 use crate::refusal::Refusal;
 
 /// What a poll asks for.
@@ -52,6 +52,8 @@ pub enum Judgement {
     Timescale = 3,
     /// A needed timestamp is unknown.
     Timestamp = 4,
+    /// Two of the timestamps are half an era apart.
+    HalfEra = 5,
 }
 
 /// What became of the filter chunk.
@@ -100,24 +102,25 @@ impl<'a> Response<'a> {
     }
 }
 
-/// Judges a response. `previous` is the saved exchange that an interleaved one measures.
+/// Judges a response and measures a usable one. `previous` is the saved exchange that an
+/// interleaved one measures.
 pub(crate) fn judge(
     header: &Header,
     timescale: u8,
     previous: Option<&Saved>,
     times: &Times,
-) -> Judgement {
+) -> Result<Measured, Judgement> {
     let other = |scale| scale != timescale;
     if header.leap == 3 {
-        Judgement::Leap
+        Err(Judgement::Leap)
     } else if !(1..=15).contains(&header.stratum) {
-        Judgement::Stratum
+        Err(Judgement::Stratum)
     } else if other(header.timescale) || previous.is_some_and(|saved| other(saved.timescale)) {
-        Judgement::Timescale
+        Err(Judgement::Timescale)
     } else if !times.known() {
-        Judgement::Timestamp
+        Err(Judgement::Timestamp)
     } else {
-        Judgement::Usable
+        times.measure().ok_or(Judgement::HalfEra)
     }
 }
 

@@ -1,4 +1,4 @@
-//! Offset and delay of an exchange, in units of 2^-32 s.
+//! Offset and delay of an exchange.
 
 /// The four timestamps of one measurement.
 #[derive(Clone, Copy, Debug, PartialEq, Eq)]
@@ -13,24 +13,33 @@ pub struct Times {
     pub t4: u64,
 }
 
-/// `a - b` modulo 2^64, read as a number from -2^63 to 2^63 - 1.
-fn difference(a: u64, b: u64) -> i128 {
-    i128::from(a.wrapping_sub(b) as i64)
+/// A measurement in units of 2^-32 s.
+#[derive(Clone, Copy, Debug, PartialEq, Eq)]
+pub struct Measured {
+    /// Half of (T2-T1) + (T3-T4), rounded toward minus infinity.
+    pub offset: i64,
+    /// The size of (T4-T1) - (T3-T2).
+    pub delay: u64,
+}
+
+/// `a - b` modulo 2^64, read as a number from -(2^63 - 1) to 2^63 - 1.
+/// 2^63, half an era, has no sign.
+fn difference(a: u64, b: u64) -> Option<i128> {
+    let number = a.wrapping_sub(b) as i64;
+    (number != i64::MIN).then_some(number.into())
 }
 
 impl Times {
-    /// Half of (T2-T1) + (T3-T4), rounded toward minus infinity.
-    pub fn offset(&self) -> i64 {
-        let sum = difference(self.t2, self.t1) + difference(self.t3, self.t4);
-        // The shift rounds toward minus infinity, and the half of two 64-bit numbers fits 64 bits.
-        (sum >> 1) as i64
-    }
-
-    /// The size of (T4-T1) - (T3-T2).
-    pub fn delay(&self) -> u64 {
-        let rest = difference(self.t4, self.t1) - difference(self.t3, self.t2);
-        // Two 64-bit numbers are less than 2^64 apart.
-        rest.unsigned_abs() as u64
+    /// Offset and delay; none if any of the four differences is half an era.
+    pub fn measure(&self) -> Option<Measured> {
+        let sum = difference(self.t2, self.t1)? + difference(self.t3, self.t4)?;
+        let rest = difference(self.t4, self.t1)? - difference(self.t3, self.t2)?;
+        Some(Measured {
+            // The shift rounds toward minus infinity, and the half of two 64-bit numbers fits.
+            offset: (sum >> 1) as i64,
+            // Two 64-bit numbers are less than 2^64 apart.
+            delay: rest.unsigned_abs() as u64,
+        })
     }
 
     /// Whether none of the four is unknown.

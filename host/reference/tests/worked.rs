@@ -77,18 +77,41 @@ fn m5_m6_m7_positions() {
 #[test]
 fn m8_to_m11_measurement() {
     let half = 1 << 63;
-    for (times, offset, delay) in [
-        ([0xFFFF_FFFF_0000_0000, 0x8000_0000, 0x8000_0000, 0x1_0000_0000], 2147483648, 8589934592),
-        ([10, 10, 10, 11], -1, 1),
-        ([1, half + 1, half + 1, 1], i64::MIN, 0),
-        ([1, half, half, 1], i64::MAX, 0),
+    let era = 0xFFFF_FFFF_0000_0000;
+    for (times, measured) in [
+        ([era, 0x8000_0000, 0x8000_0000, 0x1_0000_0000], Some((2147483648, 8589934592))),
+        ([10, 10, 10, 11], Some((-1, 1))),
+        // M10, as W-206 has it.
+        ([1, half + 1, half + 1, 1], None),
+        ([1, half, half, 1], Some((i64::MAX, 0))),
         // Halving each difference before adding would give 0.
-        ([1, 2, 2, 1], 1, 0),
+        ([1, 2, 2, 1], Some((1, 0))),
     ] {
-        let [t1, t2, t3, t4] = times;
-        let times = Times { t1, t2, t3, t4 };
-        assert_eq!((times.offset(), times.delay()), (offset, delay));
+        assert_eq!(measure(times), measured);
     }
+}
+
+#[test]
+fn w206_half_an_era_apart() {
+    let half = 1 << 63;
+    // T2-T1, T3-T4, T4-T1 and T3-T2 alone.
+    for times in [
+        [1, half + 1, half + 3, 5],
+        [1, half + 3, half + 5, 5],
+        [1, 3, 5, half + 1],
+        [1, 3, half + 3, 9],
+    ] {
+        assert_eq!(measure(times), None);
+    }
+    // One less counts, and minus that.
+    assert_eq!(measure([half, 1, 1, half]), Some((-i64::MAX, 0)));
+    assert_eq!(measure([1, 1, half + 2, half]), Some((1, u64::MAX - 1)));
+    assert_eq!(measure([half, half + 2, 1, 1]), Some((1, u64::MAX - 1)));
+}
+
+fn measure([t1, t2, t3, t4]: [u64; 4]) -> Option<(i64, u64)> {
+    let measured = Times { t1, t2, t3, t4 }.measure();
+    measured.map(|measured| (measured.offset, measured.delay))
 }
 
 #[test]

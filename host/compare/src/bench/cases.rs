@@ -58,15 +58,7 @@ const ADD: [fn(&mut State); 3] = single(
     made!(|s| plain::add(&mut s.filter, &s.id)),
 );
 
-const OFFSET: [fn(&mut State); 3] = single(
-    made!(|s| calls::offset(s.times[0], s.times[1], s.times[2], s.times[3])),
-    made!(|s| plain::offset(s.times[0], s.times[1], s.times[2], s.times[3])),
-);
-
-const DELAY: [fn(&mut State); 3] = single(
-    made!(|s| calls::delay(s.times[0], s.times[1], s.times[2], s.times[3])),
-    made!(|s| plain::delay(s.times[0], s.times[1], s.times[2], s.times[3])),
-);
+const MEASURE: [fn(&mut State); 3] = single(library_measure, rival_measure);
 
 /// A call without table and store is the same on lent octets.
 const fn single(library: fn(&mut State), plain: fn(&mut State)) -> [fn(&mut State); 3] {
@@ -83,6 +75,21 @@ fn rival_weight(s: &mut State, weigh: fn(&[u8]) -> Result<u16, Refusal>) {
     let weighed = black_box(weigh(&s.filter));
     s.keep_weight(weighed.unwrap_or(0));
     s.refusal = weighed.refusal();
+}
+
+fn library_measure(s: &mut State) {
+    let [t1, t2, t3, t4] = s.times;
+    let measured = black_box(calls::measure(t1, t2, t3, t4));
+    s.keep_measurement(measured.offset, measured.delay);
+}
+
+fn rival_measure(s: &mut State) {
+    let [t1, t2, t3, t4] = s.times;
+    let measured = black_box(plain::measure(t1, t2, t3, t4));
+    s.keep_measurement(
+        measured.map_or(0, |measured| measured.offset),
+        measured.map_or(0, |measured| measured.delay),
+    );
 }
 
 fn occasion(fresh: u64) -> Occasion {
@@ -162,6 +169,13 @@ fn header_only() -> State {
     State::with_datagram(Header { mode: REQUEST, ..Header::default() }.octets().to_vec())
 }
 
+/// T3 half an era from T2, the last difference that is looked at.
+fn half_an_era() -> State {
+    let mut state = header_only();
+    state.times[2] = state.times[1].wrapping_add(1 << 63);
+    state
+}
+
 /// All cases.
 #[rustfmt::skip]
 pub const CASES: [Case; 19] = [
@@ -182,6 +196,6 @@ pub const CASES: [Case; 19] = [
     Case { name: "weight-by-octets", state: header_only, reset: Reset::Nothing, calls: WEIGHT_BY_OCTETS },
     Case { name: "sound-1280", state: three_hundred_fields, reset: Reset::Nothing, calls: SOUND },
     Case { name: "add", state: header_only, reset: Reset::Nothing, calls: ADD },
-    Case { name: "offset", state: header_only, reset: Reset::Nothing, calls: OFFSET },
-    Case { name: "delay", state: header_only, reset: Reset::Nothing, calls: DELAY },
+    Case { name: "measure", state: header_only, reset: Reset::Nothing, calls: MEASURE },
+    Case { name: "measure-half-era", state: half_an_era, reset: Reset::Nothing, calls: MEASURE },
 ];

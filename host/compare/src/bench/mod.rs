@@ -112,8 +112,6 @@ have_refusal! {
     ffi::Received: |returned| returned.refusal;
     ffi::Verdict: |returned| returned.refusal;
     ffi::Weight: |returned| returned.refusal;
-    i64: |_returned| 0;
-    u64: |_returned| 0;
 }
 
 impl<T> HasRefusal for Result<T, Refusal> {

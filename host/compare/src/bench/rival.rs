@@ -6,7 +6,7 @@ pub mod plain {
     use reference::association::Verdict;
     use reference::exchange::{Mode, Received};
     use reference::header::ClientCookie;
-    use reference::measure::Times;
+    use reference::measure::{Measured, Times};
     use reference::refusal::Refusal;
     use reference::responder::{Occasion, Server};
     use reference::store::Store;
@@ -78,16 +78,10 @@ pub mod plain {
         filter::add(octets, id)
     }
 
-    /// See [`Times::offset`].
+    /// See [`Times::measure`].
     #[inline(never)]
-    pub fn offset(t1: u64, t2: u64, t3: u64, t4: u64) -> i64 {
-        Times { t1, t2, t3, t4 }.offset()
-    }
-
-    /// See [`Times::delay`].
-    #[inline(never)]
-    pub fn delay(t1: u64, t2: u64, t3: u64, t4: u64) -> u64 {
-        Times { t1, t2, t3, t4 }.delay()
+    pub fn measure(t1: u64, t2: u64, t3: u64, t4: u64) -> Option<Measured> {
+        Times { t1, t2, t3, t4 }.measure()
     }
 }
 

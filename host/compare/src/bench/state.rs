@@ -107,6 +107,12 @@ impl State {
         self.out[..2].copy_from_slice(&weight.to_be_bytes());
     }
 
+    /// And so do an offset and a delay.
+    pub fn keep_measurement(&mut self, offset: i64, delay: u64) {
+        self.out[..8].copy_from_slice(&offset.to_be_bytes());
+        self.out[8..16].copy_from_slice(&delay.to_be_bytes());
+    }
+
     /// Sixteen associations with complete filters; `selected` is published.
     pub fn complete(selected: u16) -> Self {
         let (mut plain, mut store) = (Table::default(), Store::new(8).expect("eight records"));

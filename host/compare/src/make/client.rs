@@ -1,6 +1,6 @@
 //! Calls on a table.
 
-use super::datagram;
+use super::{datagram, half_an_era_from};
 use crate::call::Call;
 use crate::random::Random;
 use reference::association::{Association, CHUNK_SIZES};
@@ -88,8 +88,11 @@ fn sending(random: &mut Random, association: u8) -> Call {
     Call::Sent { association, t1: random.time() }
 }
 
+/// A response, T4 once in a while half an era from T1.
 fn receiving(random: &mut Random, association: u8, open: Option<&Association>) -> Call {
-    Call::Receive { association, datagram: datagram::response(random, open), t4: random.time() }
+    let t1 = open.and_then(|open| open.outstanding).map_or(0, |request| request.t1);
+    let t4 = if random.one_in(16) { half_an_era_from(t1) } else { random.time() };
+    Call::Receive { association, datagram: datagram::response(random, open, t4), t4 }
 }
 
 /// Publishing, mostly of complete filters only.

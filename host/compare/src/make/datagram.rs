@@ -1,5 +1,6 @@
 //! Datagrams: requests and responses, long and short, sound and damaged.
 
+use super::half_an_era_from;
 use crate::random::Random;
 use reference::association::{Association, CHUNK_SIZES};
 use reference::chain;
@@ -106,8 +107,20 @@ pub fn header(random: &mut Random, mode: u8) -> Header {
     }
 }
 
-/// A response, mostly one to the association's outstanding request.
-pub fn response(random: &mut Random, open: Option<&Association>) -> Vec<u8> {
+/// Times that a response is measured with, once in a while half an era from each other.
+fn half_an_era(random: &mut Random, header: &mut Header, open: &Association, t4: u64) {
+    let saved = open.saved.filter(|_| header.interleaved());
+    let (t2, t4) = saved.map_or((header.receive, t4), |saved| (saved.times.t2, saved.times.t4));
+    match random.below(16) {
+        0 => header.receive = half_an_era_from(open.outstanding.map_or(0, |request| request.t1)),
+        1 => header.transmit = half_an_era_from(t2),
+        2 => header.transmit = half_an_era_from(t4),
+        _ => {}
+    }
+}
+
+/// A response that comes at T4, mostly one to the association's outstanding request.
+pub fn response(random: &mut Random, open: Option<&Association>, t4: u64) -> Vec<u8> {
     let mut header = header(random, header::RESPONSE);
     header.leap = if random.one_in(12) { 3 } else { random.below(3) as u8 };
     header.stratum = random.pick(&[1, 1, 2, 3, 8, 14, 15, 15, 15, 15, 0, 16, 255]);
@@ -124,6 +137,7 @@ pub fn response(random: &mut Random, open: Option<&Association>) -> Vec<u8> {
         if random.below(12) < if known { 9 } else { 1 } {
             header.flags |= INTERLEAVED;
         }
+        half_an_era(random, &mut header, open, t4);
     }
     if random.one_in(20) {
         header.client_cookie.0 ^= 1 << random.below(64);

@@ -9,3 +9,8 @@ pub mod head;
 pub mod lent;
 pub mod responder;
 pub mod single;
+
+/// The timestamp half an era from this one, the same forward and back.
+fn half_an_era_from(time: u64) -> u64 {
+    time.wrapping_add(1 << 63)
+}

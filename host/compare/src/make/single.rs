@@ -1,6 +1,6 @@
 //! Calls on single datagrams, filters and timestamps.
 
-use super::{client, datagram};
+use super::{client, datagram, half_an_era_from};
 use crate::call::Call;
 use crate::random::Random;
 use ntp5::ffi::Header;
@@ -31,7 +31,7 @@ fn any_datagram(random: &mut Random) -> (u8, Vec<u8>) {
             let length = random.pick(&[0, 1, 44, 47, 48, 48, 49, 50, 52, 1276, 1280, 1281, 1284]);
             (3, random.octets(length))
         }
-        1..4 => (4, datagram::response(random, None)),
+        1..4 => (4, datagram::response(random, None, 0)),
         _ => (3, datagram::request(random, &[])),
     };
     if random.one_in(4) && !datagram.is_empty() {
@@ -66,11 +66,12 @@ fn writing(random: &mut Random) -> Call {
     Call::HeaderWrite { header, out: random.octets(room) }
 }
 
-/// Four timestamps: anywhere, or near each other across the end of an era.
+/// Four timestamps: anywhere, or near each other across the end of an era; as often as
+/// not with two that are half an era apart.
 fn measuring(random: &mut Random) -> Call {
     let base = random.number();
     let near = random.one_in(2);
-    let times = [0; 4].map(|_: u64| {
+    let mut times = [0; 4].map(|_: u64| {
         let number = random.number();
         if near {
             base.wrapping_add(number >> 34)
@@ -78,5 +79,9 @@ fn measuring(random: &mut Random) -> Call {
             number
         }
     });
+    if random.one_in(2) {
+        let (one, other) = random.pick(&[(1, 0), (2, 3), (3, 0), (2, 1)]);
+        times[one] = half_an_era_from(times[other]);
+    }
     Call::Measure { times }
 }

@@ -142,12 +142,7 @@ pub fn filter_weight(filter: &[u8]) -> Weight {
     unsafe { ntp5_filter_weight(filter.as_ptr(), filter.len()) }
 }
 
-/// The offset of four timestamps.
-pub fn offset(t1: u64, t2: u64, t3: u64, t4: u64) -> i64 {
-    unsafe { ntp5_offset(t1, t2, t3, t4) }
-}
-
-/// The delay of four timestamps.
-pub fn delay(t1: u64, t2: u64, t3: u64, t4: u64) -> u64 {
-    unsafe { ntp5_delay(t1, t2, t3, t4) }
+/// Offset and delay of four timestamps.
+pub fn measure(t1: u64, t2: u64, t3: u64, t4: u64) -> Measurement {
+    unsafe { ntp5_measure(t1, t2, t3, t4) }
 }

@@ -50,6 +50,18 @@ pub struct Weight {
     pub weight: u16,
 }
 
+/// `ntp5_measurement`: offset and delay of four timestamps.
+#[repr(C)]
+#[derive(Clone, Copy, Debug, PartialEq, Eq)]
+pub struct Measurement {
+    /// 0, or 5 for half an era.
+    pub judgement: u8,
+    /// Offset in 2^-32 s.
+    pub offset: i64,
+    /// Delay in 2^-32 s.
+    pub delay: u64,
+}
+
 /// `ntp5_header`: the fields of a header.
 #[repr(C)]
 #[derive(Clone, Copy, Debug, PartialEq, Eq)]
@@ -109,6 +121,5 @@ extern "C" {
     fn ntp5_filter_add(filter: *mut u8, filter_len: usize, id: *const u8, id_len: usize) -> u8;
     fn ntp5_filter_union(into: *mut u8, into_len: usize, other: *const u8, other_len: usize) -> u8;
     fn ntp5_filter_weight(filter: *const u8, filter_len: usize) -> Weight;
-    fn ntp5_offset(t1: u64, t2: u64, t3: u64, t4: u64) -> i64;
-    fn ntp5_delay(t1: u64, t2: u64, t3: u64, t4: u64) -> u64;
+    fn ntp5_measure(t1: u64, t2: u64, t3: u64, t4: u64) -> Measurement;
 }
