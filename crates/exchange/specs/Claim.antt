@@ -8,7 +8,7 @@ use Rattle.exchange.specs.Judging.{judged}
 use Rattle.exchange.specs.declared.response.Response.{Response}
 use Rattle.exchange.specs.declared.judging.Times.{Times}
 
--- none of the reasons 1 to 4 applies, and two of the times are half an era apart
+-- none of the reasons 1 to 4 applies, and one of the four differences is half an era
 pub record HalfEraAlone (r : Response) (timescale previous : ℕ) (t : Times) : Type 0 where
   pub synchronized : r .leap ≡ 3 → ⊥
   pub stratum : (1 ≤ r .stratum) × (r .stratum ≤ 15)

@@ -5,7 +5,7 @@ use mathlib.Core.Option.{Option, none, some}
 use Prim.Native.Nat.{ℕ, _-_, _^_, _≤_}
 use lib.IntN.{ℤ, pos, negℤ, _+ℤ_, _-ℤ_}
 use lib.Signed.{_≤ℤ_}
-use Rattle.measure.specs.Measure.{residue, difference, halfDown, halfEra, measurement}
+use Rattle.measure.specs.Measure.{residue, difference, halfDown, offset, delay, halfEra, measurement}
 
 -- the whole numbers from -2^63 to 2^63 - 1, those of a signed number of 64 bits
 abbrev pub Signed64 : ℤ → Type 0
@@ -28,7 +28,7 @@ AcrossEras = (a b : ℤ) → Symmetric64 (a -ℤ b) → difference (residue a) (
 abbrev pub HalfEraExactly : Type 0
 HalfEraExactly = (a b : ℤ) → difference (residue a) (residue b) ≡ none ↔ (residue (a -ℤ b) ≡ 2 ^ 63)
 
--- the difference of b and a is minus that of a and b, half an era included
+-- minus a difference; half an era is its own
 abbrev pub minus : Option ℤ → Option ℤ
 minus none = none
 minus (some z) = some (negℤ z)
@@ -36,14 +36,14 @@ minus (some z) = some (negℤ z)
 abbrev pub DifferenceSymmetric : Type 0
 DifferenceSymmetric = (a b : ℕ) → difference a b ≡ minus (difference b a)
 
--- each of a measurement's four differences counts: it is judged 5, with zeros, where one of them is half an era, and else 0
+-- each of a measurement's four differences counts: where one of them is half an era it is judged 5, with zeros, and else 0, with offset and delay
 pub record EachDifference (t1 t2 t3 t4 : ℕ) : Type 0 where
   pub outward : difference t2 t1 ≡ none → measurement t1 t2 t3 t4 ≡ halfEra
   pub back : difference t3 t4 ≡ none → measurement t1 t2 t3 t4 ≡ halfEra
   pub whole : difference t4 t1 ≡ none → measurement t1 t2 t3 t4 ≡ halfEra
   pub inside : difference t3 t2 ≡ none → measurement t1 t2 t3 t4 ≡ halfEra
-  pub signed : (difference t2 t1 ≡ none → ⊥) → (difference t3 t4 ≡ none → ⊥) → (difference t4 t1 ≡ none → ⊥) → (difference t3 t2 ≡ none → ⊥)
-      → measurement t1 t2 t3 t4 .judgement ≡ 0
+  pub signed : (o b w i : ℤ) → difference t2 t1 ≡ some o → difference t3 t4 ≡ some b → difference t4 t1 ≡ some w → difference t3 t2 ≡ some i
+      → measurement t1 t2 t3 t4 ≡ record { judgement = 0; offset = offset o b; delay = delay w i }
 
 abbrev pub FourDifferences : Type 0
 FourDifferences = (t1 t2 t3 t4 : ℕ) → EachDifference t1 t2 t3 t4

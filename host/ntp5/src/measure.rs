@@ -49,7 +49,7 @@ impl Measured {
 }
 
 /// Why there is no measurement: a response was accepted but is of no use for the clock,
-/// or two times are half an era apart.
+/// or a difference of timestamps has no sign.
 #[derive(Clone, Copy, Debug, PartialEq, Eq, Hash)]
 #[repr(u8)]
 pub enum Unusable {
@@ -61,6 +61,6 @@ pub enum Unusable {
     Timescale = 3,
     /// A timestamp that the measurement needs is unknown.
     Timestamp = 4,
-    /// Two of the timestamps are half an era apart: their difference has no sign.
+    /// T2-T1, T3-T4, T4-T1 or T3-T2 is half an era, which has no sign.
     HalfEra = 5,
 }

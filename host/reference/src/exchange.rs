@@ -52,7 +52,7 @@ pub enum Judgement {
     Timescale = 3,
     /// A needed timestamp is unknown.
     Timestamp = 4,
-    /// Two of the timestamps are half an era apart.
+    /// One of the four differences is half an era.
     HalfEra = 5,
 }
 

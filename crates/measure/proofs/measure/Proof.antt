@@ -116,16 +116,13 @@ delay-requires c κs = search needs
 
 -- all four are numbers
 module _ (t1 t2 t3 t4 : ℕ) (o b w i : ℤ) (so : difference t2 t1 ≡ some o) (sb : difference t3 t4 ≡ some b) (sw : difference t4 t1 ≡ some w) (si : difference t3 t2 ≡ some i) where
-  joined : measurement t1 t2 t3 t4 ≡ record { judgement = 0; offset = offset o b; delay = delay w i }
-  unfolding measurement
-  joined = rw (so, sb, sw, si)
-
   answered : (x : ℤ) (n : ℕ) → mag x < 2 ^ 63 → x ≡ offset (readBack o) (readBack b) → n ≡ delay (readBack w) (readBack i)
       → record { judgement = 0; offset = readBack x; delay = n } ≡ measurement t1 t2 t3 t4
   answered x n h e f =
       let first = read-back x h ∙ e ∙ ap₂ offset (number-back t2 t1 o so) (number-back t3 t4 b sb) in
       let second = f ∙ ap₂ delay (number-back t4 t1 w sw) (number-back t3 t2 i si) in
-      ap₂ (λ (y : ℤ) (m : ℕ). record { judgement = 0; offset = y; delay = m }) first second ∙ sym joined
+      ap₂ (λ (y : ℤ) (m : ℕ). record { judgement = 0; offset = y; delay = m }) first second
+      ∙ sym (four-differences t1 t2 t3 t4 .signed o b w i so sb sw si)
 
 returns-5 : tie.Need-returns-5
 returns-5 c =
