@@ -186,7 +186,11 @@ int main(void)
     EXPECT(look_for_loop(&left, &right) == NTP5_VERDICT_LOOP);
     EXPECT(look_for_loop(&right, &left) == NTP5_VERDICT_LOOP);
 
-    /* What a controller does about it: it no longer follows that source. Here the left one yields. */
+    /* A source whose clock died may be half an era off, 2^31 s: is it ahead or behind? Such a measurement steers no clock. */
+    uint64_t far = (uint64_t)1 << 63;
+    EXPECT(ntp5_measure(MS, MS + far, MS + far, MS).judgement == NTP5_HALF_ERA);
+
+    /* What a controller does about a loop: it no longer follows that source. Here the left one yields. */
     EXPECT(ntp5_close(left.table, ntp5_table_octets(), SOURCE) == NTP5_OK);
     printf("left: closed its source\n");
     return 0;

@@ -105,7 +105,7 @@ typedef struct {
     uint64_t delay;
 } ntp5_received;
 
-/* The same of four timestamps: judgement 0, or 5 and zeros. */
+/* Offset and delay as above, of four timestamps: judgement 0, or 5 and zeros. */
 typedef struct {
     uint8_t judgement;
     int64_t offset;
@@ -274,12 +274,12 @@ ntp5_weight ntp5_filter_weight(const uint8_t *filter, size_t filter_len);
  * MEASUREMENT
  *
  * T1: the request left the client, T2: it came to the server, T3: the answer left the server, T4: it came to the client. The
- * four differences are the right ones across an era's end, as long as the clocks are less than 2^31 s (68 years) apart. At
- * exactly that, half an era, either clock may be ahead: the judgement is 5, and offset and delay are 0.
+ * four differences are the right ones across an era's end, as long as the clocks are less than 2^31 s (68 years) apart. Where
+ * one of the four is exactly 2^31 s, half an era, it has no sign: the judgement is 5, and offset and delay are 0.
  * Any numbers are taken, 0 too, and nothing is refused.
  *
- * offset: ((T2 - T1) + (T3 - T4)) / 2, rounded toward minus infinity; from -(2^63 - 1) to 2^63 - 1.
- * delay: the size of (T4 - T1) - (T3 - T2); at most 2^64 - 2.
+ * offset: by how much the server's clock is ahead, ((T2 - T1) + (T3 - T4)) / 2, rounded toward minus infinity; from
+ * -(2^63 - 1) to 2^63 - 1. delay: the time spent on the way, the size of (T4 - T1) - (T3 - T2); at most 2^64 - 2.
  */
 ntp5_measurement ntp5_measure(uint64_t t1, uint64_t t2, uint64_t t3, uint64_t t4);
 

@@ -5,7 +5,7 @@ usage: cases_make.py > crates/cases/stdin
        cases_model.py < crates/cases/stdin > crates/cases/stdout
 
 First the cases that a person chose, by subject, then random ones from a fixed seed, then the client table's and the
-responder's, which are in client_make.py and responder_make.py. Running it again gives the same file.
+responder's, which are in client_make.py, half_era_make.py and responder_make.py. Running it again gives the same file.
 """
 import random
 import sys
@@ -13,6 +13,7 @@ import sys
 sys.dont_write_bytecode = True      # no generated folder beside the sources
 from cases_model import text_of     # noqa: E402
 from client_make import client_lines    # noqa: E402
+from half_era_make import half_era_lines    # noqa: E402
 from responder_make import responder_lines     # noqa: E402
 
 R = random.Random(5)
@@ -393,6 +394,7 @@ def main():
     print("\n# Random ones")
     print("\n".join(random_part()))
     print("\n".join(client_lines(R)))
+    print("\n".join(half_era_lines()))
     print("\n".join(responder_lines(R)))
     print("\n# A line one octet too long, and a last line with no line end")
     print("x" * 65537)

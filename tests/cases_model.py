@@ -1,10 +1,10 @@
 #!/usr/bin/env python3
-"""What the program `cases` should print, from a reading of document 01 alone.
+"""What the program `cases` should print, from a reading of documents 01 and 02 alone.
 
 usage: cases_model.py < CASES > EXPECTED
 
-Plain Python, written from the page ("What to make and its exact rules") and docs/CASES.md, and from nothing
-of the Rattle code. The page is in page_model.py, client_model.py and responder_model.py; the case files' format is here.
+Plain Python, written from the pages and docs/CASES.md, and from nothing of the Rattle code. The pages are in
+page_model.py, client_model.py and responder_model.py; the case files' format is here.
 """
 import re
 import sys

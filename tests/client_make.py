@@ -176,34 +176,6 @@ def judging(lines):
         exchange(lines, 0, cookie, t1, t4, response(cookie, receive=t2, transmit=t3))
 
 
-HALF_ERA = 2 ** 63
-HALF_ERA_APART = [(1, HALF_ERA + 1, HALF_ERA + 3, 5), (1, HALF_ERA + 3, HALF_ERA + 5, 5), (1, 3, 5, HALF_ERA + 1),
-                  (1, 3, HALF_ERA + 3, 9)]      # T2 - T1 alone, T3 - T4, T4 - T1, T3 - T2
-
-
-def half_an_era(lines):
-    lines.fresh("Half an era apart, judgement 5, basic: each of the four differences alone, the chunk taken", (7, 0, 128))
-    for cookie, (t1, t2, t3, t4) in enumerate(HALF_ERA_APART, 1):
-        exchange(lines, 7, cookie, t1, t4, response(cookie, chunk(bytes([cookie]) * 128), receive=t2, transmit=t3), size=128)
-    lines.receive(7, 9, response(4))
-    lines.publish(0x80, OWN_ID, "00*512")
-
-    lines.group("The same interleaved: the response before was saved, and the one judged 5 is saved too")
-    for cookie, (t1, t2, t3, t4) in enumerate(HALF_ERA_APART, 1):
-        before, after = 10 * cookie, 10 * cookie + 1
-        exchange(lines, 7, before, t1, t4, response(before, receive=t2, transmit=t2, server_cookie=before), size=128)
-        exchange(lines, 7, after, 21, 27, response(after, flags=2, receive=23, transmit=t3, server_cookie=after), "interleaved",
-                 size=128)
-    exchange(lines, 7, 50, 0, 60, response(50, flags=2, transmit=25), "interleaved", size=128)
-
-    lines.group("1 to 4 come before 5, and this exchange's own times do not count in an interleaved one")
-    ends = {"receive": HALF_ERA + 1, "transmit": HALF_ERA + 1}
-    for cookie, (t1, values) in enumerate([(1, {"leap": 3}), (1, {"stratum": 0}), (1, {"timescale": 1}), (0, {}), (1, {})], 60):
-        exchange(lines, 7, cookie, t1, 1, response(cookie, **{**ends, **values}), size=128)
-    exchange(lines, 7, 70, 21, 27, response(70, receive=23, transmit=25, server_cookie=70), size=128)
-    exchange(lines, 7, 71, 1, 1, response(71, flags=2, receive=HALF_ERA + 1, transmit=25), "interleaved", size=128)
-
-
 def interleaving(lines):
     lines.fresh("Interleaved: T1, T2, T4 of the previous exchange; a basic answer; refusal 10", (1, 0, 16))
     first = response(1, receive=20, transmit=30, server_cookie=0x1111)
@@ -350,7 +322,6 @@ def client_lines(random):
     sending(lines)
     receiving(lines)
     judging(lines)
-    half_an_era(lines)
     interleaving(lines)
     outcomes(lines)
     completing(lines, random)

@@ -70,7 +70,8 @@ def request_octets(values, start, chunk_size):
 
 
 def judge(response, timescales, wanted, times):
-    """The judgement of an accepted response: `timescales` have to be `wanted`, none of `times` 0, none half an era apart."""
+    """The judgement of an accepted response: `timescales` have to be `wanted`, none of `times` 0, and
+    each of the four differences to have a sign."""
     if response["leap"] == 3:
         return 1
     if not 1 <= response["stratum"] <= 15:

@@ -1,6 +1,6 @@
-"""What document 01 says of headers, field chains, filters and measurement: each answer from its arguments alone.
+"""What documents 01 and 02 say of headers, field chains, filters and measurement: each answer from its arguments alone.
 
-Plain Python, written from the page ("What to make and its exact rules"), and from nothing of the Rattle code:
+Plain Python, written from the pages, and from nothing of the Rattle code:
 octet strings are `bytes`, numbers are whole numbers without a width.
 """
 

@@ -1,11 +1,11 @@
--- Judgement 5 is given exactly where no other reason applies. Assumes nothing.
+-- Judgement 5 is given exactly where none of 1 to 4 applies and one of the four differences is half an era. Assumes nothing.
 use mathlib.Core.Path.{_≡_, refl, sym}
 use mathlib.Core.Bool.{Bool, true, false, cond, not, _&&_, _||_, false≢true}
 use Prim.Native.Nat.{ℕ}
 use native.Mathlib.Omega.{arith}
 use borrow.Author.Tests.{eqb-true, eqb-false, eq-eqb, ne-eqb, ltb-false, le-ltb, not-false}
 use lib.Dec.{eqb, ltb}
-use Rattle.exchange.specs.Claim.{HalfEraAlone, HalfEraJudged}
+use Rattle.exchange.specs.Claim.{HalfEraFirst, HalfEraJudged}
 use Rattle.exchange.specs.Judging.{judged}
 use Rattle.exchange.specs.declared.response.Response.{Response}
 use Rattle.exchange.specs.declared.judging.Times.{Times}
@@ -29,7 +29,7 @@ no-other true p s f = rw (eq-eqb p s (f refl))
 no-other false p s f = refl
 
 module _ (r : Response) (timescale previous : ℕ) (t : Times) where
-  only : judged r timescale previous t ≡ 5 → HalfEraAlone r timescale previous t
+  only : judged r timescale previous t ≡ 5 → HalfEraFirst r timescale previous t
   only e =
       let one = passed (eqb (r .leap) 3) _ _ e (λ q. omega arith) in
       let two = passed (ltb (r .stratum) 1 || ltb 15 (r .stratum)) _ _ (one .1) (λ q. omega arith) in
@@ -48,7 +48,7 @@ module _ (r : Response) (timescale previous : ℕ) (t : Times) where
         apart = four .1;
       }
 
-  all : HalfEraAlone r timescale previous t → judged r timescale previous t ≡ 5
+  all : HalfEraFirst r timescale previous t → judged r timescale previous t ≡ 5
   all h =
       rw (
         ne-eqb _ _ (h .synchronized),

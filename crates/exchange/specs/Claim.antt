@@ -9,7 +9,7 @@ use Rattle.exchange.specs.declared.response.Response.{Response}
 use Rattle.exchange.specs.declared.judging.Times.{Times}
 
 -- none of the reasons 1 to 4 applies, and one of the four differences is half an era
-pub record HalfEraAlone (r : Response) (timescale previous : ℕ) (t : Times) : Type 0 where
+pub record HalfEraFirst (r : Response) (timescale previous : ℕ) (t : Times) : Type 0 where
   pub synchronized : r .leap ≡ 3 → ⊥
   pub stratum : (1 ≤ r .stratum) × (r .stratum ≤ 15)
   pub same-timescale : (r .timescale ≡ timescale) × (r .interleaved ≡ true → previous ≡ timescale)
@@ -18,4 +18,4 @@ pub record HalfEraAlone (r : Response) (timescale previous : ℕ) (t : Times) : 
 
 -- 5 comes after 4
 abbrev pub HalfEraJudged : Type 0
-HalfEraJudged = (r : Response) (timescale previous : ℕ) (t : Times) → judged r timescale previous t ≡ 5 ↔ HalfEraAlone r timescale previous t
+HalfEraJudged = (r : Response) (timescale previous : ℕ) (t : Times) → judged r timescale previous t ≡ 5 ↔ HalfEraFirst r timescale previous t

@@ -15,7 +15,7 @@ Signed64 z = (negℤ (pos (2 ^ 63)) ≤ℤ z) × (z ≤ℤ pos (2 ^ 63 - 1))
 abbrev pub Symmetric64 : ℤ → Type 0
 Symmetric64 z = (negℤ (pos (2 ^ 63 - 1)) ≤ℤ z) × (z ≤ℤ pos (2 ^ 63 - 1))
 
--- the difference of two timestamps is the one number in that range that is a - b modulo 2^64
+-- the difference of two timestamps is the one number in that range that is a - b modulo 2^64, if there is one
 abbrev pub DifferenceExactly : Type 0
 DifferenceExactly = (a b : ℕ) (z : ℤ) → difference a b ≡ some z ↔ (Symmetric64 z × (residue z ≡ residue (pos a -ℤ pos b)))
 
@@ -24,7 +24,7 @@ DifferenceExactly = (a b : ℕ) (z : ℤ) → difference a b ≡ some z ↔ (Sym
 abbrev pub AcrossEras : Type 0
 AcrossEras = (a b : ℤ) → Symmetric64 (a -ℤ b) → difference (residue a) (residue b) ≡ some (a -ℤ b)
 
--- and it has no sign exactly where the times are half an era apart, and any number of eras
+-- and it has no sign exactly where the times are half an era, and any number of eras, apart
 abbrev pub HalfEraExactly : Type 0
 HalfEraExactly = (a b : ℤ) → difference (residue a) (residue b) ≡ none ↔ (residue (a -ℤ b) ≡ 2 ^ 63)
 
@@ -36,7 +36,8 @@ minus (some z) = some (negℤ z)
 abbrev pub DifferenceSymmetric : Type 0
 DifferenceSymmetric = (a b : ℕ) → difference a b ≡ minus (difference b a)
 
--- each of a measurement's four differences counts: where one of them is half an era it is judged 5, with zeros, and else 0, with offset and delay
+-- each of the four differences counts: a measurement is judged 5, with zeros, where one of them is half an era, and else 0, with offset
+-- and delay
 pub record EachDifference (t1 t2 t3 t4 : ℕ) : Type 0 where
   pub outward : difference t2 t1 ≡ none → measurement t1 t2 t3 t4 ≡ halfEra
   pub back : difference t3 t4 ≡ none → measurement t1 t2 t3 t4 ≡ halfEra

@@ -7,12 +7,12 @@ use Rattle.chain.specs.Chain.{allZero, stepAt, walkFor, walk, chainRefusal, sou
 use Rattle.filter.specs.Positions.{positions}
 use Rattle.filter.specs.Filter.{addAll, countBelow}
 use Rattle.measure.specs.Measure.{difference, measurement}
-use Rattle.worked.specs.Cases.{bare, request, tableFor, same, allSame, agree, Worked, halfEraFor, HalfEraWorked}
+use Rattle.worked.specs.Cases.{bare, request, tableFor, same, allSame, agree, Worked, halfEraTable, HalfEraWorked}
 
 pub worked : Worked
 unfolding num octets spelled headerOctets refusal allZero stepAt walkFor walk chainRefusal soundRefusal positions addAll countBelow difference measurement bare request tableFor same allSame agree
 worked = refl
 
 pub half-era-worked : HalfEraWorked
-unfolding difference measurement same allSame agree halfEraFor
+unfolding difference measurement same allSame agree halfEraTable
 half-era-worked = refl

@@ -1,4 +1,5 @@
--- Document 01, "Cases M1 to M12": a row is a case's number, what the definitions give, and what the page says.
+-- Document 01, "Cases M1 to M12", with M10 as document 02 changes it, and the cases of W-206: a row is a case's number, what the
+-- definitions give, and what the pages say.
 use mathlib.Core.Path.{_≡_}
 use mathlib.Core.Bool.{Bool, true, false, cond, _&&_}
 use mathlib.Core.List.{List, [], _∷_, _++_}
@@ -20,8 +21,12 @@ pub record Row : Type 0 where
   pub gives : List ℤ
   pub says : List ℤ
 
+abbrev pub row : ℕ → List ℤ → List ℤ → Row
+row n g s = record { case = n; gives = g; says = s }
+
+-- of the page's case M n
 abbrev pub M : ℕ → List ℤ → List ℤ → Row
-M n g s = record { case = n; gives = g; says = s }
+M = row
 
 -- a header of zeros but leap and mode
 unfoldable pub bare : ℕ → ℕ → Header
@@ -111,7 +116,7 @@ allSame [] (y ∷ ys) = false
 allSame (x ∷ xs) [] = false
 allSame (x ∷ xs) (y ∷ ys) = same x y && allSame xs ys
 
--- how many values the page says in each of its cases M1 to M12
+-- how many values there are in each of the cases M1 to M12; in M8 to M11 they are judgement, offset and delay
 abbrev pub valuesSaid : List ℕ
 valuesSaid = 3 ∷ 5 ∷ 1 ∷ 1 ∷ 2 ∷ 2 ∷ 2 ∷ 3 ∷ 3 ∷ 3 ∷ 3 ∷ 2 ∷ []
 
@@ -130,25 +135,22 @@ WorkedFor m w = agree 1 valuesSaid (tableFor m w) ≡ true
 abbrev pub Worked : Type 0
 Worked = WorkedFor measurement weight
 
--- Document 02, W-206: row 1 has each of T2-T1, T3-T4, T4-T1 and T3-T2 half an era alone, row 2 differences of 2^63 - 1, row 3 of -(2^63 - 1):
--- the largest and the smallest offset, and the largest delay
-unfoldable pub halfEraFor : MeasurementFunction → List Row
-halfEraFor m =
-    M 1 (
-    measured m 1 (2 ^ 63 + 1) (2 ^ 63 + 3) 5
-    ++ measured m 1 (2 ^ 63 + 3) (2 ^ 63 + 5) 5
-    ++ measured m 1 3 5 (2 ^ 63 + 1)
-    ++ measured m 1 3 (2 ^ 63 + 3) 9
+-- Document 02, W-206. Row 1: T2-T1, T3-T4, T4-T1 and T3-T2, each alone half an era. Row 2: the smallest offset, of two differences of
+-- -(2^63 - 1) (M11 has the largest), and the largest delay, of 2^63 - 1 and -(2^63 - 1), both ways
+unfoldable pub halfEraTable : List Row
+halfEraTable =
+    row 1 (
+    measured measurement 1 (2 ^ 63 + 1) (2 ^ 63 + 3) 5
+    ++ measured measurement 1 (2 ^ 63 + 3) (2 ^ 63 + 5) 5
+    ++ measured measurement 1 3 5 (2 ^ 63 + 1)
+    ++ measured measurement 1 3 (2 ^ 63 + 3) 9
     ) (pos 5 ∷ pos 0 ∷ pos 0 ∷ pos 5 ∷ pos 0 ∷ pos 0 ∷ pos 5 ∷ pos 0 ∷ pos 0 ∷ pos 5 ∷ pos 0 ∷ pos 0 ∷ [])
-    ∷ M 2 (
-    measured m 1 (2 ^ 63) (2 ^ 63) 1
-    ++ measured m 1 1 (2 ^ 63 + 2) (2 ^ 63)
-    ) (pos 0 ∷ pos (2 ^ 63 - 1) ∷ pos 0 ∷ pos 0 ∷ pos 1 ∷ pos (2 ^ 64 - 2) ∷ [])
-    ∷ M 3 (
-    measured m (2 ^ 63) 1 1 (2 ^ 63)
-    ++ measured m (2 ^ 63) (2 ^ 63 + 2) 1 1
-    ) (pos 0 ∷ negℤ (pos (2 ^ 63 - 1)) ∷ pos 0 ∷ pos 0 ∷ pos 1 ∷ pos (2 ^ 64 - 2) ∷ [])
+    ∷ row 2 (
+    measured measurement (2 ^ 63) 1 1 (2 ^ 63)
+    ++ measured measurement 1 1 (2 ^ 63 + 2) (2 ^ 63)
+    ++ measured measurement (2 ^ 63) (2 ^ 63 + 2) 1 1
+    ) (pos 0 ∷ negℤ (pos (2 ^ 63 - 1)) ∷ pos 0 ∷ pos 0 ∷ pos 1 ∷ pos (2 ^ 64 - 2) ∷ pos 0 ∷ pos 1 ∷ pos (2 ^ 64 - 2) ∷ [])
     ∷ []
 
 abbrev pub HalfEraWorked : Type 0
-HalfEraWorked = agree 1 (12 ∷ 6 ∷ 6 ∷ []) (halfEraFor measurement) ≡ true
+HalfEraWorked = agree 1 (12 ∷ 9 ∷ []) halfEraTable ≡ true

@@ -1,4 +1,5 @@
-//! Document 01 in plain safe Rust, written from that page alone.
+//! Document 01, with the change requests of document 02, in plain safe Rust, written from
+//! those pages alone.
 //!
 //! It shares no code with the library, so that a difference between the two
 //! shows an error in one of them. It is also the benchmark's rival: a table

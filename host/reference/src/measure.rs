@@ -35,7 +35,7 @@ impl Times {
         let sum = difference(self.t2, self.t1)? + difference(self.t3, self.t4)?;
         let rest = difference(self.t4, self.t1)? - difference(self.t3, self.t2)?;
         Some(Measured {
-            // The shift rounds toward minus infinity, and the half of two 64-bit numbers fits.
+            // The shift rounds toward minus infinity, and half the sum of two 64-bit numbers fits.
             offset: (sum >> 1) as i64,
             // Two 64-bit numbers are less than 2^64 apart.
             delay: rest.unsigned_abs() as u64,

@@ -9,7 +9,7 @@ use lib.IntN.{ℤ}
 use lib.Signed.{mag}
 use types.Run.{OneOf}
 use borrow.Author.Needs.{needs}
-use Rattle.measure.specs.Measure.{difference, numberOf, offset, delay, measurement}
+use Rattle.measure.specs.Measure.{difference, differenceOf, offset, delay, measurement}
 use Rattle.measure.specs.declared.TimestampDifference.{TimestampDifference}
 use Rattle.measure.specs.declared.TimestampDifference.the-variants.{Signed, HalfEra}
 use Rattle.measure.proofs.TimestampDifference.{the-type as difference-type}
@@ -21,13 +21,13 @@ use Rattle.measure.proofs.measure.Statement.{statement}
 use Rattle.measure.proofs.measure.Tie as tie
 
 -- what the `else` branches have
-half-era : (a b : ℕ) (d : TimestampDifference) → numberOf d ≡ difference a b → OneOf (1 ∷ []) (tagOf difference-type d) → difference a b ≡ none
+half-era : (a b : ℕ) (d : TimestampDifference) → differenceOf d ≡ difference a b → OneOf (1 ∷ []) (tagOf difference-type d) → difference a b ≡ none
 half-era a b (Signed z) e o = absurd (omega arith)
 half-era a b HalfEra e o = sym e
 
 -- and the others
-signed : (a b : ℕ) (d : TimestampDifference) (z : ℤ) → numberOf d ≡ difference a b → d ≡ Signed z → difference a b ≡ some z
-signed a b d z e q = sym e ∙ ap numberOf q
+signed : (a b : ℕ) (d : TimestampDifference) (z : ℤ) → differenceOf d ≡ difference a b → d ≡ Signed z → difference a b ≡ some z
+signed a b d z e q = sym e ∙ ap differenceOf q
 
 number-back : (a b : ℕ) (z : ℤ) → difference a b ≡ some z → readBack z ≡ z
 number-back a b z e = read-back z (size-mag z (symmetric-size z (difference-exactly a b z .0 e .0)))

@@ -5,6 +5,7 @@ use super::state::{poll_request, server, State};
 use super::{Case, HasRefusal, Reset};
 use ntp5::ffi::calls;
 use reference::chain;
+use reference::exchange::Judgement;
 use reference::header::{Header, ServerCookie, REQUEST};
 use reference::refusal::Refusal;
 use reference::responder::Occasion;
@@ -80,16 +81,16 @@ fn rival_weight(s: &mut State, weigh: fn(&[u8]) -> Result<u16, Refusal>) {
 fn library_measure(s: &mut State) {
     let [t1, t2, t3, t4] = s.times;
     let measured = black_box(calls::measure(t1, t2, t3, t4));
-    s.keep_measurement(measured.offset, measured.delay);
+    s.keep_measurement(measured.judgement, measured.offset, measured.delay);
 }
 
 fn rival_measure(s: &mut State) {
     let [t1, t2, t3, t4] = s.times;
     let measured = black_box(plain::measure(t1, t2, t3, t4));
-    s.keep_measurement(
-        measured.map_or(0, |measured| measured.offset),
-        measured.map_or(0, |measured| measured.delay),
-    );
+    match measured {
+        Some(measured) => s.keep_measurement(0, measured.offset, measured.delay),
+        None => s.keep_measurement(Judgement::HalfEra as u8, 0, 0),
+    }
 }
 
 fn occasion(fresh: u64) -> Occasion {

@@ -94,7 +94,7 @@ trait HasRefusal {
     fn refusal(&self) -> u8;
 }
 
-/// What holds its refusal, or cannot be refused.
+/// What holds its refusal.
 macro_rules! have_refusal {
     ($($kind:ty: |$returned:ident| $refusal:expr;)*) => {
         $(impl HasRefusal for $kind {

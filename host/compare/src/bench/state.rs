@@ -107,10 +107,11 @@ impl State {
         self.out[..2].copy_from_slice(&weight.to_be_bytes());
     }
 
-    /// And so do an offset and a delay.
-    pub fn keep_measurement(&mut self, offset: i64, delay: u64) {
-        self.out[..8].copy_from_slice(&offset.to_be_bytes());
-        self.out[8..16].copy_from_slice(&delay.to_be_bytes());
+    /// And so does a measurement.
+    pub fn keep_measurement(&mut self, judgement: u8, offset: i64, delay: u64) {
+        self.out[0] = judgement;
+        self.out[1..9].copy_from_slice(&offset.to_be_bytes());
+        self.out[9..17].copy_from_slice(&delay.to_be_bytes());
     }
 
     /// Sixteen associations with complete filters; `selected` is published.

@@ -107,7 +107,8 @@ pub fn header(random: &mut Random, mode: u8) -> Header {
     }
 }
 
-/// Times that a response is measured with, once in a while half an era from each other.
+/// Times that this response, or the next one, is measured with: once in a while half an era
+/// from each other.
 fn half_an_era(random: &mut Random, header: &mut Header, open: &Association, t4: u64) {
     let saved = open.saved.filter(|_| header.interleaved());
     let (t2, t4) = saved.map_or((header.receive, t4), |saved| (saved.times.t2, saved.times.t4));
