@@ -187,8 +187,8 @@ int main(void)
     EXPECT(look_for_loop(&right, &left) == NTP5_VERDICT_LOOP);
 
     /* A source whose clock died may be half an era off, 2^31 s: is it ahead or behind? Such a measurement steers no clock. */
-    uint64_t far = (uint64_t)1 << 63;
-    EXPECT(ntp5_measure(MS, MS + far, MS + far, MS).judgement == NTP5_HALF_ERA);
+    uint64_t half_era = (uint64_t)1 << 63;
+    EXPECT(ntp5_measure(MS, MS + half_era, MS + half_era, MS).judgement == NTP5_HALF_ERA);
 
     /* What a controller does about a loop: it no longer follows that source. Here the left one yields. */
     EXPECT(ntp5_close(left.table, ntp5_table_octets(), SOURCE) == NTP5_OK);
