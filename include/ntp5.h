@@ -11,9 +11,10 @@
  *   - one buffer is in one call at a time (there are no locks).
  * Any contents of a buffer are safe: what is wrong is refused.
  *
- * A refusal is a number from 1 to 12. It changes no buffer, and the other numbers of the answer are 0; that is proved of
+ * A refusal is a number from 1 to 13. It changes no buffer, and the other numbers of the answer are 0; that is proved of
  * every call (docs/CLAIMS.md, "Refusals"), as is that the number is one of those that its comment below names. Where
- * several apply, the first in this order is given: 6, 7, 1, 2, 3, then 4 and 5 field by field, 9, 10, 8, 11, 12.
+ * several apply, the first in this order is given: 6, 7, 1, 2, 3, then 4 and 5 field by field, 13, 9, 10, 8, 11,
+ * 12.
  *
  * COOKIES ARE NEVER USED TWICE. The caller draws every client cookie and every server cookie at random and never gives one
  * a second time. The library refuses only the repeats that it can see, and with an older cookie given again a late
@@ -46,7 +47,8 @@ enum {
     NTP5_NOT_ASKED = 9,       /* nothing is outstanding, or the client cookie is another one */
     NTP5_NOT_INTERLEAVED = 10,/* an interleaved response to a request that sent no server cookie */
     NTP5_NO_ROOM = 11,        /* the output is shorter than what is to be written */
-    NTP5_NOT_STORED = 12      /* the server cookie is not in the store, or its time was reported already */
+    NTP5_NOT_STORED = 12,     /* the server cookie is not in the store, or its time was reported already */
+    NTP5_AFTER_MAC = 13       /* a field stands after the first MAC (type 0xF502), which is the last field if there is one */
 };
 
 /*
@@ -183,7 +185,7 @@ uint8_t ntp5_sent(uint8_t *table, size_t table_len, uint8_t association, uint64_
  * Takes a datagram that came from the association's server at T4. `datagram` is only read. If it is accepted, the request is
  * used up, so that a second copy is refused with 9; the filter chunk is taken, whatever the judgement, and the exchange
  * is measured if it is usable.
- * Refuses: 6 (also T4 of 0), 7 if not open, 1 to 5, 9 if it does not answer the outstanding request, 10.
+ * Refuses: 6 (also T4 of 0), 7 if not open, 1 to 5, 13, 9 if it does not answer the outstanding request, 10.
  */
 ntp5_received ntp5_receive(uint8_t *table, size_t table_len, uint8_t association, const uint8_t *datagram,
                            size_t datagram_len, uint64_t t4);
@@ -233,8 +235,8 @@ uint8_t ntp5_report(uint8_t *store, size_t store_len, uint64_t server_cookie, ui
  *   information     the data of the server information field, 4 octets: version 5 alone is 00 10 00 00
  * An answer is interleaved if the request wants that and its server cookie is in the store with a reported time; that record
  * then leaves the store, so that a saved time is sent once only.
- * Refuses: 6 (also a leap above 3, a filter or information of another size, a time of 0), 1 to 5, 8 if a fresh cookie is needed
- * and is 0 or in the store, 11.
+ * Refuses: 6 (also a leap above 3, a filter or information of another size, a time of 0), 1 to 5, 13, 8 if a fresh cookie is
+ * needed and is 0 or in the store, 11.
  */
 ntp5_written ntp5_answer(uint8_t *store, size_t store_len, const uint8_t *request, size_t request_len,
                          uint64_t receive_time, uint64_t estimate, uint64_t fresh_cookie, uint8_t leap, uint8_t stratum,
@@ -252,7 +254,7 @@ ntp5_read ntp5_header_read(const uint8_t *datagram, size_t datagram_len, uint8_t
 /* Writes a header to the first 48 octets of `out`. Refuses: 6 for a leap above 3 or a mode other than 3 and 4, 11. */
 uint8_t ntp5_header_write(ntp5_header header, uint8_t *out, size_t out_len);
 
-/* Whether a datagram's header and fields are sound. Only reads. Refuses: 1 to 5. */
+/* Whether a datagram's header and fields are sound. A MAC is not verified. Only reads. Refuses: 1 to 5, 13. */
 uint8_t ntp5_sound(const uint8_t *datagram, size_t datagram_len, uint8_t wanted_mode);
 
 /*

@@ -5,7 +5,8 @@ usage: cases_make.py > crates/cases/stdin
        cases_model.py < crates/cases/stdin > crates/cases/stdout
 
 First the cases that a person chose, by subject, then random ones from a fixed seed, then the client table's and the
-responder's, which are in client_make.py, half_era_make.py and responder_make.py. Running it again gives the same file.
+responder's, which are in client_make.py, half_era_make.py, responder_make.py and mac_make.py. Running it again gives the
+same file.
 """
 import random
 import sys
@@ -14,6 +15,7 @@ sys.dont_write_bytecode = True      # no generated folder beside the sources
 from cases_model import text_of     # noqa: E402
 from client_make import client_lines    # noqa: E402
 from half_era_make import half_era_lines    # noqa: E402
+from mac_make import mac_lines  # noqa: E402
 from responder_make import responder_lines     # noqa: E402
 
 R = random.Random(5)
@@ -396,6 +398,7 @@ def main():
     print("\n".join(client_lines(R)))
     print("\n".join(half_era_lines()))
     print("\n".join(responder_lines(R)))
+    print("\n".join(mac_lines()))
     print("\n# A line one octet too long, and a last line with no line end")
     print("x" * 65537)
     print("sound 3 2b00*47", end="")

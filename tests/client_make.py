@@ -202,7 +202,7 @@ def interleaving(lines):
 
 def outcomes(lines):
     lines.fresh("Chunks: absent, of another size, taken; only the first filter response counts", (4, 0, 16))
-    right, unknown = chunk(b"\xaa" * 16), extension(0xF502, b"\x01\x02\x03\x04")
+    right, unknown = chunk(b"\xaa" * 16), extension(0x1234, b"\x01\x02\x03\x04")
     answers = [(unknown, extension(0xF503, b"\xaa" * 16)), (chunk(b""),), (chunk(b"\xaa" * 15),),
                (chunk(b"\xaa" * 20), right), (right, chunk(b"\xbb" * 16)),
                (unknown, extension(0xF501, bytes(3)), extension(0xF505, bytes(4)), right)]

@@ -6,7 +6,7 @@ octet strings are `bytes`, numbers are whole numbers without a width.
 
 
 DRAFT_NAME = b"draft-mlichvar-ntp-ntpv5-07"
-PADDING, FILTER_REQUEST, FILTER_RESPONSE, INFORMATION, DRAFT = 0xF501, 0xF503, 0xF504, 0xF505, 0xF5FF
+PADDING, MAC, FILTER_REQUEST, FILTER_RESPONSE, INFORMATION, DRAFT = 0xF501, 0xF502, 0xF503, 0xF504, 0xF505, 0xF5FF
 INTERLEAVED = 0x2       # a flag
 
 
@@ -40,17 +40,23 @@ def chain_refusal(datagram):
     return 0
 
 
-def sound(datagram, wanted_mode):
-    return header_refusal(datagram, wanted_mode) or chain_refusal(datagram)
-
-
 def fields(datagram):
-    """The fields of a sound datagram, from the left: each a type and its data."""
+    """The fields of a datagram without refusals 1 to 5, from the left: each a type and its data."""
     at = 48
     while at < len(datagram):
         length = number(datagram[at + 2:at + 4])
         yield number(datagram[at:at + 2]), datagram[at + 4:at + length]
         at += (length + 3) // 4 * 4
+
+
+def mac_refusal(datagram):
+    """Refusal 13, of a datagram without refusals 1 to 5: a field that is not the last is a MAC."""
+    kinds = [kind for kind, _ in fields(datagram)]
+    return 13 if MAC in kinds[:-1] else 0
+
+
+def sound(datagram, wanted_mode):
+    return header_refusal(datagram, wanted_mode) or chain_refusal(datagram) or mac_refusal(datagram)
 
 
 def extension(kind, data):

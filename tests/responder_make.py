@@ -156,8 +156,8 @@ def answering(lines):
     lines.group("Fields: every order of the three, and with others between them", 1)
     for order in permutations(three):
         lines.answer(request(*order), filter_octets=COUNTED)
-    others = [extension(PADDING, b"\x01\x02\x03"), extension(0xF502, bytes(20)), extension(0xF504, bytes(8)),
-              extension(0x1234, b"\xff")]
+    others = [extension(PADDING, b"\x01\x02\x03"), extension(0x1234, b"\xff"), extension(0xF504, bytes(8)),
+              extension(0xF502, bytes(20))]
     lines.answer(request(*(field for pair in zip(others, three) for field in pair), others[3]), filter_octets=COUNTED)
 
     lines.group("Only the first of a type counts, also where it isn't good", 1)

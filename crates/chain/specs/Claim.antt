@@ -6,7 +6,7 @@ use Prim.Native.Nat.{ℕ, _+_, _≤_}
 use lib.ListN.{length, drop}
 use Rattle.header.specs.Claim.{Passes}
 use Rattle.chain.specs.Chain.{padded, stepAt, chainRefusal, soundRefusal, Chain}
-use Rattle.chain.specs.Field.{fieldsFrom, AllInside}
+use Rattle.chain.specs.Field.{fieldsFrom, fieldsOf, AllInside, NothingAfterMac}
 use Rattle.chain.specs.Content.{Content, chainOctets, contentsOf, AllFit}
 use Rattle.chain.specs.declared.cursor.Cursor.{Cursor}
 use Rattle.chain.specs.declared.cursor.Field.{Field}
@@ -24,9 +24,13 @@ FieldsInside = (s : List ℕ) (at : ℕ) → AllInside s (fieldsFrom s at)
 abbrev pub ChainsAccepted : Type 0
 ChainsAccepted = (s : List ℕ) → chainRefusal s ≡ 0 ↔ Chain s
 
--- a datagram is sound exactly when its header passes and what follows the header is a chain
+-- a datagram is sound exactly when its header passes, what follows the header is a chain, and no field stands after the first MAC
 abbrev pub SoundDatagrams : Type 0
-SoundDatagrams = (s : List ℕ) (wanted : ℕ) → soundRefusal s wanted ≡ 0 ↔ (Passes s wanted × Chain (drop 48 s))
+SoundDatagrams = (s : List ℕ) (wanted : ℕ) → soundRefusal s wanted ≡ 0 ↔ (Passes s wanted × Chain (drop 48 s) × NothingAfterMac (fieldsOf s))
+
+-- refusal 13 is given exactly when only the last of the three fails: a wrong header or field is refused with its own number, wherever it stands
+abbrev pub AfterMacRefused : Type 0
+AfterMacRefused = (s : List ℕ) (wanted : ℕ) → soundRefusal s wanted ≡ 13 ↔ (Passes s wanted × Chain (drop 48 s) × (NothingAfterMac (fieldsOf s) → ⊥))
 
 -- fields that were written after p are read there, each with its type and its data
 abbrev pub ContentsBack : Type 0

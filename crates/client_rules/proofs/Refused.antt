@@ -38,7 +38,7 @@ laterOf (Open timescale c) = 7 ∷ []
 laterOf Close = 7 ∷ []
 laterOf (Poll cookie interleaved room) = 7 ∷ 8 ∷ 11 ∷ []
 laterOf (Sent t1) = 7 ∷ []
-laterOf (Receive r) = 7 ∷ 1 ∷ 2 ∷ 3 ∷ 4 ∷ 5 ∷ 9 ∷ 10 ∷ []
+laterOf (Receive r) = 7 ∷ 1 ∷ 2 ∷ 3 ∷ 4 ∷ 5 ∷ 13 ∷ 9 ∷ 10 ∷ []
 laterOf Look = 7 ∷ []
 
 -- an event that brings no other number with it
@@ -177,7 +177,7 @@ refusals (poll a cookie exponent interleaved out) t =
     (record { number = λ r. number-of (r .refusal) _ out refl; plain = λ r n. plain-of (r .refusal) _ out n })
 refusals (sent a t1) t = event-refused _ a _ [] refusalAnswer t tt refl plainly-refusal
 refusals (receive a datagram t4) t =
-    event-refused _ a _ datagram receiveAnswer t (rw (response-sound datagram t4) (sound-number (λ (n : ℕ). among n (0 ∷ refusalsOf (receive a datagram t4)) ≡ true) refl refl refl refl refl refl datagram 4)) refl plainly-receive
+    event-refused _ a _ datagram receiveAnswer t (rw (response-sound datagram t4) (sound-number (λ (n : ℕ). among n (0 ∷ refusalsOf (receive a datagram t4)) ≡ true) refl refl refl refl refl refl refl datagram 4)) refl plainly-receive
 refusals (loopVerdict a id) t = verdict-refused a id t (seenOctets t a) (kept-at a Look [] t tt .number)
 refusals (publish selected id out) t =
     by-test (IfRefused (publish selected id out) t) (eqb (length t) tableSize)

@@ -27,7 +27,7 @@ refusalsOf (openOne a timescale c) = 6 ∷ 7 ∷ []
 refusalsOf (closeOne a) = 6 ∷ 7 ∷ []
 refusalsOf (poll a cookie exponent interleaved out) = 6 ∷ 7 ∷ 8 ∷ 11 ∷ []
 refusalsOf (sent a t1) = 6 ∷ 7 ∷ []
-refusalsOf (receive a datagram t4) = 6 ∷ 7 ∷ 1 ∷ 2 ∷ 3 ∷ 4 ∷ 5 ∷ 9 ∷ 10 ∷ []
+refusalsOf (receive a datagram t4) = 6 ∷ 7 ∷ 1 ∷ 2 ∷ 3 ∷ 4 ∷ 5 ∷ 13 ∷ 9 ∷ 10 ∷ []
 refusalsOf (loopVerdict a id) = 6 ∷ 7 ∷ []
 refusalsOf (publish selected id out) = 6 ∷ 7 ∷ 11 ∷ []
 

@@ -15,7 +15,7 @@ use Rattle.chain.specs.Field.{firstOf}
 use Rattle.chain.specs.Content.{Content, chainOctets, AllFit, placed}
 use Rattle.chain.specs.declared.find.Occurrence.{Occurrence}
 use Rattle.chain.specs.declared.find.Occurrence.the-variants.{At, Absent}
-use Rattle.chain.proofs.Contents.{AllOctets}
+use Rattle.chain.proofs.Contents.{NoneOf, AllOctets}
 use Rattle.poll_request.specs.Request.{pollLength}
 use Rattle.exchange.specs.Response.{withChunk, responseOf}
 use Rattle.exchange.specs.declared.response.Response.{Response}
@@ -96,11 +96,11 @@ module _ {a : ℕ} (inside : a < 16) (h : Head) where
     accepted (At f) d k o = rw (ne-eqb (v .t4) 0 nonzero, eq-eqb k k refl)
     accepted Absent d k o = rw (ne-eqb (v .t4) 0 nonzero, eq-eqb k k refl)
 
-    pub round : (o : Opened) (k : ℕ) → Polls k (o .last) → (cs : List Content) → AllFit cs → AllOctets cs → length (chainOctets cs) ≤ 1232
+    pub round : (o : Opened) (k : ℕ) → Polls k (o .last) → (cs : List Content) → AllFit cs → NoneOf 0xF502 cs → AllOctets cs → length (chainOctets cs) ≤ 1232
         → From a (opened (answered v k cs o)) h → From a (opened o) h
-    round o k p cs fit octets room l =
+    round o k p cs fit none octets room l =
         let d = responseDatagram v k cs in
         ask o k (v .t1) false p (fits .saved-t1)
         (call inside (receive a d (v .t4)) (Receive (responseOf d (v .t4))) d (omega arith, response-octets v k cs octets, fits .saved-t4) (λ ps. refl)
-        (ap (λ (r : Response). placeDo (Receive r) d (opened (waiting k (v .t1) false o)) .1) (response-read h fits timescale k (p .fits) cs fit room (v .t4))
+        (ap (λ (r : Response). placeDo (Receive r) d (opened (waiting k (v .t1) false o)) .1) (response-read h fits timescale k (p .fits) cs fit none room (v .t4))
         ∙ accepted (firstOf 0xF504 (placed 48 cs)) d k o) l)

@@ -77,7 +77,7 @@ module _ {a : ℕ} (inside : a < 16) (h : Head) (fits : HeadFits h) (r : OpenRan
       ends : Leads a h (h .next) (h .taken)
       ends f last v n =
           let once : (k : ℕ) → Polls k last → Before f (some k) → From a (opened (noneOutstanding h (h .next) (h .taken) f last v)) h =
-          λ k p l. round inside h fits timescale nonzero (noneOutstanding h (h .next) (h .taken) f last v) k p [] tt tt (omega arith) (rw e at l) in
+          λ k p l. round inside h fits timescale nonzero (noneOutstanding h (h .next) (h .taken) f last v) k p [] tt tt tt (omega arith) (rw e at l) in
           by-outcome (eqb (h .outstanding) 0)
           (λ t. let z = last-polls (rw (t, e)) n in once (h .last .0) z (there _ f (rw (t, ne-eqb (h .last .0) 0 (z .nonzero)))))
           (λ t. let k = choose (h .last .0) last in once (k .cookie) (k .polls) (asking f _ t (last-polls (rw t) (k .before))))

@@ -74,7 +74,7 @@ module _ {a : ℕ} (inside : a < 16) (h : Head) (fits : HeadFits h) (r : OpenRan
       let zeros = content 0xF504 (replicate c 0) in
       let size = length-replicate {A = ℕ} c 0 in
       round inside h fits timescale nonzero (noneOutstanding h n (cond all 512 n) f last v) (k .cookie) (k .polls)
-      (zeros ∷ []) (record { kind = lit< tt; long = omega arith }, tt) (zeros-octets c, tt) (omega (arith, length-chain-one zeros))
+      (zeros ∷ []) (record { kind = lit< tt; long = omega arith }, tt) (refl, tt) (zeros-octets c, tt) (omega (arith, length-chain-one zeros))
       (rw (size, eq-eqb c c refl, one-more all n c b) (l _ (some (k .cookie)) (some (exchangeIn (h .saved))) (k .before)))
 
   -- m rounds, until all octets were taken or since

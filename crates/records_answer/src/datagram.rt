@@ -11,7 +11,7 @@ ghost use Rattle.responder_rules.specs.Answer.{given, argumentsRefusal};
 ghost use Rattle.records_answer.specs.Answer.{outcome};
 ghost use Rattle.records_answer.specs.Sent.{Ready, answerSent};
 
-// The header of the request, or what it or the arguments are refused by: 6, then 1 to 5.
+// The header of the request, or what it or the arguments are refused by: 6, then 1 to 5 and 13.
 pub(crate) fn checked(
     request: &[u8],
     filter: &[u8],

@@ -17,7 +17,7 @@ ghost use Rattle.chain.specs.Content.{chainOctets};
 ghost use Rattle.store_rules.specs.Row.{wrongStore};
 ghost use Rattle.responder_rules.specs.Answer.{given, answerFields, argumentsRefusal, outcome, answerOf};
 
-// What the arguments and the request are refused by: 6, then 1 to 5; 0 if by nothing.
+// What the arguments and the request are refused by: 6, then 1 to 5 and 13; 0 if by nothing.
 pub fn check(
     request: &[u8],
     filter: &[u8],

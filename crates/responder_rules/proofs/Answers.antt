@@ -13,18 +13,20 @@ use Rattle.header.specs.declared.Header.{Header}
 use Rattle.header.specs.Claim.{Passes, InRange as HeaderRange}
 use Rattle.header.proofs.Refusals.{passes, refusal-none}
 use Rattle.header.proofs.RoundTrip.{length-header, read-written, version-written, mode-written, read-in-range}
-use Rattle.chain.specs.Chain.{soundRefusal, chainRefusal}
-use Rattle.chain.specs.Field.{fieldsOf}
+use Rattle.chain.specs.Chain.{fieldsRefusal, soundRefusal}
+use Rattle.chain.specs.Field.{fieldsOf, firstOf}
 use Rattle.chain.specs.Content.{Content, chainOctets, AllFit, placed, contentsOf}
 use Rattle.field_role.specs.Role.{roleOf, SizeAllowed}
 use Rattle.chain.specs.declared.cursor.Field.{Field}
+use Rattle.chain.specs.declared.find.Occurrence.the-variants.{Absent}
 use Rattle.field_role.specs.declared.Role.the-variants.{FilterRequest}
-use Rattle.chain.proofs.Datagrams.{header-passes, sound-datagram}
+use Rattle.chain.proofs.Datagrams.{header-passes, sound-datagram, fields-pass}
 use Rattle.field_role.proofs.Roles.{good-parts, size-allowed}
-use Rattle.chain.proofs.Contents.{fit-append, chain-fours, length-chain-append, fields-written, chain-written, contents-written}
+use Rattle.chain.proofs.Contents.{none-placed, fit-append, chain-fours, length-chain-append, fields-written, contents-written}
 use Rattle.store_rules.specs.Row.{Record}
 use Rattle.responder_rules.specs.Answer.{Given, wantsInterleaved, savedTime, sentHeader, answersTo, paddingOf, answerFields, answerOctets, asking, sentFields}
 use Rattle.responder_rules.specs.Claim.{Accepted, InRange, AnswerClaim}
+use Rattle.responder_rules.proofs.NoMac.{fields-no-mac}
 use Rattle.responder_rules.proofs.Room.{answers-fit, all-fit, padding-size, padding-fits, response-length}
 
 module _ (g : Given) (a : Accepted g) where
@@ -74,11 +76,11 @@ module _ (g : Given) (a : Accepted g) where
     abbrev sent : Header
     sent = sentHeader g row
 
-    -- the chain of an answer is not refused
-    chain-passes : chainRefusal (drop 48 (answerOctets g row)) ≡ 0
+    -- the fields of an answer are not refused
+    fields-passed : fieldsRefusal (drop 48 (answerOctets g row)) ≡ 0
     unfolding answerOctets
-    chain-passes =
-        rw (drop-at (headerOctets sent) (chainOctets (sentFields g)) 48 (length-header sent)) (chain-written (sentFields g) fields-fit)
+    fields-passed =
+        rw (drop-at (headerOctets sent) (chainOctets (sentFields g)) 48 (length-header sent)) (fields-pass (sentFields g) fields-fit (fields-no-mac (g .request) (g .filter) (g .information)))
 
     -- an answer is sound where a response is wanted
     pub answer-sound : soundRefusal (answerOctets g row) 4 ≡ 0
@@ -95,12 +97,16 @@ module _ (g : Given) (a : Accepted g) where
           version = version-written sent (chainOctets (sentFields g)) (omega arith) (lit< tt);
           mode = mode-written sent (chainOctets (sentFields g)) (omega arith) (lit< tt);
         }))
-        chain-passes
+        fields-passed
 
     -- its fields are those that the page lists and no others
     pub answer-fields : fieldsOf (answerOctets g row) ≡ placed 48 (sentFields g)
     unfolding answerOctets
     answer-fields = fields-written (headerOctets sent) (sentFields g) 48 (length-header sent) fields-fit
+
+    -- none of them is a MAC
+    pub answer-no-mac : firstOf 0xF502 (fieldsOf (answerOctets g row)) ≡ Absent
+    answer-no-mac = rw answer-fields (none-placed 0xF502 (sentFields g) 48 (fields-no-mac (g .request) (g .filter) (g .information)))
 
     -- and so are their data
     pub answer-contents : contentsOf (answerOctets g row) (fieldsOf (answerOctets g row)) ≡ sentFields g
@@ -156,6 +162,7 @@ module _ (g : Given) (row : List Record) (a : Accepted g) (r : InRange g row) wh
     sound = answer-sound g a row;
     header = answer-header;
     fields = answer-fields g a row;
+    no-mac = answer-no-mac g a row;
     contents = answer-contents g a row;
     responses = responses g a;
   }

@@ -1,4 +1,5 @@
 -- The laws of the answer.
+pub mod NoMac
 pub mod Room
 pub mod Answers
 pub mod Accepting

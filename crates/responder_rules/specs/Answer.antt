@@ -118,7 +118,7 @@ abbrev pub wrongArguments : (filter information : List ℕ) (leap receive estima
 wrongArguments filter information leap receive estimate =
     not (eqb (length filter) 512) || not (eqb (length information) 4) || ltb 3 leap || eqb receive 0 || eqb estimate 0
 
--- what the arguments and the request are refused by: 6, then 1 to 5
+-- what the arguments and the request are refused by: 6, then 1 to 5 and 13
 abbrev pub argumentsRefusal : (request filter information : List ℕ) (leap receive estimate : ℕ) → ℕ
 argumentsRefusal request filter information leap receive estimate =
     cond (wrongArguments filter information leap receive estimate) 6 (soundRefusal request 3)

@@ -10,10 +10,11 @@ use mir.Val.{SFits}
 use Rattle.octets.specs.Number.{Octets}
 use Rattle.header.specs.Header.{headerOf}
 use Rattle.chain.specs.Chain.{soundRefusal}
-use Rattle.chain.specs.Field.{fieldsOf}
+use Rattle.chain.specs.Field.{fieldsOf, firstOf}
 use Rattle.chain.specs.Content.{placed, contentsOf}
 use Rattle.field_role.specs.Role.{roleOf}
 use Rattle.chain.specs.declared.cursor.Field.{Field}
+use Rattle.chain.specs.declared.find.Occurrence.the-variants.{Absent}
 use Rattle.field_role.specs.declared.Role.the-variants.{FilterRequest}
 use Rattle.store_rules.specs.Row.{Record, held, timeOf, withTime, storeOctets, sizeOf, rowOf, wrongStore}
 use Rattle.responder_rules.specs.Answer.{Given, Outcome, asking, wantsInterleaved, sentHeader, sentFields, rowAfter}
@@ -21,7 +22,7 @@ use Rattle.responder_rules.specs.Call.{Call, clear, report, answer, Resp
 
 -- ---- the arguments
 
--- none of refusals 1 to 5 applies to the request, and the filter, the server information and the leap are not refused by 6
+-- none of refusals 1 to 5 and 13 applies to the request, and the filter, the server information and the leap are not refused by 6
 pub record Accepted (g : Given) : Type 0 where
   pub request : soundRefusal (g .request) 3 ≡ 0
   pub filter : length (g .filter) ≡ 512
@@ -64,13 +65,15 @@ pub record AnswerClaim (g : Given) (row : List Record) (sent : List ℕ) : Type 
   pub fields : fieldsOf sent ≡ placed 48 (sentFields g)
   -- their types and data are those that the page lists
   pub contents : contentsOf sent (fieldsOf sent) ≡ sentFields g
+  -- document 02, W-205: none of them is a MAC
+  pub no-mac : firstOf 0xF502 (fieldsOf sent) ≡ Absent
   -- a filter response is as long as the filter request that it answers
   pub responses : (before : List Field) (f : Field) (offset : ℕ) → roleOf (g .request) before f ≡ FilterRequest offset
       → length (take (f .size) (drop offset (g .filter))) ≡ f .size
 
 -- none of the refusals that concern an answer applies
 pub record Answerable (g : Given) (store out : List ℕ) : Type 0 where
-  -- 6, and 1 to 5
+  -- 6, and 1 to 5 and 13
   pub right : wrongStore store ≡ false
   pub accepted : Accepted g
   pub receive : g .receive ≡ 0 → ⊥

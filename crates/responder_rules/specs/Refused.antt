@@ -12,7 +12,7 @@ use Rattle.responder_rules.specs.Call.{Call, clear, report, answer, lent
 abbrev pub refusalsOf : Call → List ℕ
 refusalsOf clear = 6 ∷ []
 refusalsOf (report c t) = 6 ∷ 12 ∷ []
-refusalsOf (answer g out) = 6 ∷ 1 ∷ 2 ∷ 3 ∷ 4 ∷ 5 ∷ 8 ∷ 11 ∷ []
+refusalsOf (answer g out) = 6 ∷ 1 ∷ 2 ∷ 3 ∷ 4 ∷ 5 ∷ 13 ∷ 8 ∷ 11 ∷ []
 
 -- what a refused call returns and leaves
 pub record RefusedCall (c : Call) (s : List ℕ) (w : Outcome) : Type 0 where

@@ -43,7 +43,7 @@ refusals (headerWrite h out) =
 refusals (sound s wanted) =
     let c = sound s wanted in
     let P : ℕ → Type 0 = λ n. IfRefused c (plainAnswer n (lent c)) in
-    sound-number P (accepted c _ refl) (refused c 1 refl) (refused c 2 refl) (refused c 3 refl) (refused c 4 refl) (refused c 5 refl) s wanted
+    sound-number P (accepted c _ refl) (refused c 1 refl) (refused c 2 refl) (refused c 3 refl) (refused c 4 refl) (refused c 5 refl) (refused c 13 refl) s wanted
 refusals (filterAdd filter id) =
     let c = filterAdd filter id in
     either (λ (w : ℕ × List ℕ). IfRefused c (outputAnswer w)) (isFilter filter && isId id) (accepted c _ refl) (refused c 6 refl)

@@ -11,7 +11,7 @@ use Rattle.single_rules.specs.Single.{Call, headerRead, headerWrite, sou
 abbrev pub refusalsOf : Call → List ℕ
 refusalsOf (headerRead datagram wanted) = 1 ∷ 2 ∷ 3 ∷ []
 refusalsOf (headerWrite fields out) = 6 ∷ 11 ∷ []
-refusalsOf (sound datagram wanted) = 1 ∷ 2 ∷ 3 ∷ 4 ∷ 5 ∷ []
+refusalsOf (sound datagram wanted) = 1 ∷ 2 ∷ 3 ∷ 4 ∷ 5 ∷ 13 ∷ []
 refusalsOf (filterAdd filter id) = 6 ∷ []
 refusalsOf (filterUnion into other) = 6 ∷ []
 refusalsOf (filterWeight filter) = 6 ∷ []

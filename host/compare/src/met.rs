@@ -3,7 +3,7 @@
 use crate::call::{Call, Outcome, Returned};
 use crate::make::head::Clause;
 use reference::association::CHUNK_SIZES;
-use reference::chain::Fields;
+use reference::chain::{Fields, MAC};
 use reference::header::INTERLEAVED;
 use std::collections::BTreeMap;
 use std::fmt;
@@ -17,6 +17,9 @@ impl Met {
     pub fn count(&mut self, call: &Call, outcome: &Outcome) {
         let key = format!("{} {}", name(call), described(call, outcome));
         *self.0.entry(key).or_default() += 1;
+        if let Some(mac) = beside_mac(call, outcome.returned.refusal()) {
+            self.also(&format!("{} {mac}", name(call)));
+        }
         if matches!(call, Call::Answer(_)) && outcome.returned.refusal() == 0 {
             let Returned::Written(written) = outcome.returned else { return };
             let fields = Fields::of(&outcome.out[..written.length.into()]);
@@ -82,6 +85,29 @@ pub fn interleaved(datagram: &[u8]) -> &'static str {
     }
 }
 
+/// What a datagram with a MAC led to: taken with the MAC as its last field, refused with 13 for
+/// one MAC or for more, or with 4 or 5 for a field after it.
+fn beside_mac(call: &Call, refusal: u8) -> Option<&'static str> {
+    let datagram = match call {
+        Call::Receive { datagram, .. } | Call::Sound { datagram, .. } => datagram,
+        Call::Answer(args) => &args.request,
+        _ => return None,
+    };
+    let macs = Fields::of(datagram).map_while(Result::ok).filter(|field| field.kind == MAC).count();
+    match (refusal, macs) {
+        (0, 1) => Some(MAC_OUTCOMES[0]),
+        (13, 1) => Some(MAC_OUTCOMES[1]),
+        (13, 2..) => Some(MAC_OUTCOMES[2]),
+        (4, 1..) => Some(MAC_OUTCOMES[3]),
+        (5, 1..) => Some(MAC_OUTCOMES[4]),
+        _ => None,
+    }
+}
+
+/// The outcomes that [`beside_mac`] tells apart.
+const MAC_OUTCOMES: [&str; 5] =
+    ["0, a MAC last", "13, one MAC", "13, more MACs", "4 after a MAC", "5 after a MAC"];
+
 /// An outcome in words: the refusal, or 0 and what sets it apart from other successes.
 fn described(call: &Call, outcome: &Outcome) -> String {
     let refusal = outcome.returned.refusal();
@@ -128,15 +154,15 @@ const REFUSALS: [(&str, &[u8]); 18] = [
     ("close", &[0, 6, 7]),
     ("poll", &[6, 7, 8, 11]),
     ("sent", &[0, 6, 7]),
-    ("receive", &[6, 7, 1, 2, 3, 4, 5, 9, 10]),
+    ("receive", &[6, 7, 1, 2, 3, 4, 5, 13, 9, 10]),
     ("verdict", &[6, 7]),
     ("publish", &[6, 7, 11]),
     ("store", &[0, 6]),
     ("report", &[0, 6, 12]),
-    ("answer", &[6, 1, 2, 3, 4, 5, 8, 11]),
+    ("answer", &[6, 1, 2, 3, 4, 5, 13, 8, 11]),
     ("header", &[0, 1, 2, 3]),
     ("write", &[0, 6, 11]),
-    ("sound", &[0, 1, 2, 3, 4, 5]),
+    ("sound", &[0, 1, 2, 3, 4, 5, 13]),
     ("add", &[0, 6]),
     ("union", &[0, 6]),
     ("weight", &[0, 6]),
@@ -166,7 +192,8 @@ const OUTCOMES: [&str; 18] = [
 ];
 
 /// Every refusal of every call, every judgement with every chunk outcome, half an era in each
-/// of the four differences, every verdict, 6 for every clause of a head's rule.
+/// of the four differences, every outcome beside a MAC, every verdict, 6 for every clause of a
+/// head's rule.
 fn required() -> Vec<String> {
     let mut required: Vec<String> = OUTCOMES.map(String::from).to_vec();
     for (call, numbers) in REFUSALS {
@@ -180,6 +207,9 @@ fn required() -> Vec<String> {
         required.extend(DIFFERENCES.map(|d| format!("also: half an era in {d} alone, {mode}")));
     }
     required.extend(DIFFERENCES.map(|d| format!("measure 5 {d}")));
+    for call in ["sound", "receive", "answer"] {
+        required.extend(MAC_OUTCOMES.map(|mac| format!("also: {call} {mac}")));
+    }
     for clause in Clause::ALL {
         required.push(format!("also: head out of range: {clause:?}"));
     }

@@ -112,7 +112,7 @@ impl<B: AsRef<[u8]> + AsMut<[u8]>> Table<B> {
         Refusal::check(calls::sent(self.0.as_mut(), association, t1))
     }
 
-    /// Takes a datagram that came at T4 (refusals 6, 7, 1 to 5, 9, 10).
+    /// Takes a datagram that came at T4 (refusals 6, 7, 1 to 5, 13, 9, 10).
     pub fn receive(
         &mut self,
         association: u8,

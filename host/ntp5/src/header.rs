@@ -66,7 +66,7 @@ impl Header {
     }
 }
 
-/// Whether a datagram is sound for a mode (refusals 1 to 5).
+/// Whether a datagram is sound for a mode (refusals 1 to 5, 13).
 pub fn sound(datagram: &[u8], wanted_mode: u8) -> Result<(), Refusal> {
     Refusal::check(calls::sound(datagram, wanted_mode))
 }

@@ -4,7 +4,7 @@
 use std::error::Error;
 use std::fmt;
 
-/// Why a call was refused. The value is document 01's number.
+/// Why a call was refused. The value is document 01's number, or document 02's.
 #[derive(Clone, Copy, Debug, PartialEq, Eq, Hash)]
 #[repr(u8)]
 pub enum Refusal {
@@ -32,11 +32,13 @@ pub enum Refusal {
     Room = 11,
     /// The server cookie is not in the store, or its time was already reported.
     NotStored = 12,
+    /// A field stands after the first MAC.
+    AfterMac = 13,
 }
 
 impl Refusal {
     /// All refusals, by number from 1 on.
-    pub const ALL: [Refusal; 12] = [
+    pub const ALL: [Refusal; 13] = [
         Refusal::DatagramLength,
         Refusal::Version,
         Refusal::Mode,
@@ -49,9 +51,10 @@ impl Refusal {
         Refusal::NotInterleaved,
         Refusal::Room,
         Refusal::NotStored,
+        Refusal::AfterMac,
     ];
 
-    /// Document 01's number.
+    /// The document's number.
     pub fn number(self) -> u8 {
         self as u8
     }
@@ -83,6 +86,7 @@ impl fmt::Display for Refusal {
             Refusal::NotInterleaved => "interleaved response to a request without server cookie",
             Refusal::Room => "output buffer too short",
             Refusal::NotStored => "server cookie not stored or its time already reported",
+            Refusal::AfterMac => "field after the MAC",
         };
         write!(f, "refusal {}: {text}", self.number())
     }

@@ -77,7 +77,7 @@ impl<B: AsRef<[u8]> + AsMut<[u8]>> Store<B> {
         Refusal::check(calls::report(self.0.as_mut(), cookie.0, time))
     }
 
-    /// Writes the answer to a request (refusals 6, 1 to 5, 8, 11); gives its length,
+    /// Writes the answer to a request (refusals 6, 1 to 5, 13, 8, 11); gives its length,
     /// which is the request's.
     pub fn answer(
         &mut self,

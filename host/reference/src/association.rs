@@ -133,7 +133,7 @@ impl Association {
         Ok(())
     }
 
-    /// Takes a datagram that came at T4, not 0 (refusals 1 to 5, 9, 10).
+    /// Takes a datagram that came at T4, not 0 (refusals 1 to 5, 13, 9, 10).
     pub fn receive(&mut self, datagram: &[u8], t4: u64) -> Result<Received, Refusal> {
         let Response { header, chunk } = Response::read(datagram)?;
         let repeats = |request: &Request| request.client_cookie == header.client_cookie;

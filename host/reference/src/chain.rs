@@ -5,6 +5,8 @@ use crate::refusal::Refusal;
 
 /// Padding; its data is ignored.
 pub const PADDING: u16 = 0xF501;
+/// The MAC, not verified here; no field stands after it.
+pub const MAC: u16 = 0xF502;
 /// A client's request for a part of the server's filter.
 pub const FILTER_REQUEST: u16 = 0xF503;
 /// The part of the filter that a server sends.
@@ -79,18 +81,32 @@ impl<'a> Iterator for Fields<'a> {
     }
 }
 
-/// Whether a datagram is sound for a mode (refusals 1 to 5).
+/// Whether a datagram is sound for a mode (refusals 1 to 5, 13).
 pub fn sound(datagram: &[u8], wanted_mode: u8) -> Result<(), Refusal> {
     header::checked(datagram, wanted_mode)?;
     check(datagram)
 }
 
-/// Whether every field of a datagram can be taken from its chain (refusals 4, 5).
+/// Whether every field of a datagram can be taken from its chain, and none stands after the
+/// first MAC (refusals 4, 5, 13).
 pub fn check(datagram: &[u8]) -> Result<(), Refusal> {
-    for field in Fields::of(datagram) {
-        field?;
+    let mut fields = Fields::of(datagram);
+    while let Some(field) = fields.next() {
+        if field?.kind == MAC {
+            return after_mac(fields);
+        }
     }
     Ok(())
+}
+
+/// Refuses the fields after the first MAC: the first wrong one with its number, else any with 13.
+pub fn after_mac(fields: Fields) -> Result<(), Refusal> {
+    let mut outcome = Ok(());
+    for field in fields {
+        field?;
+        outcome = Err(Refusal::AfterMac);
+    }
+    outcome
 }
 
 /// Begins a field of `n` data octets at the start of `out`: writes type, length

@@ -1,6 +1,6 @@
 //! One exchange of the client: the request as sent, the response as read, its judgement.
 
-use crate::chain::{self, Fields, FILTER_REQUEST, FILTER_RESPONSE, NAME};
+use crate::chain::{self, Fields, FILTER_REQUEST, FILTER_RESPONSE, MAC, NAME};
 use crate::header::{self, ClientCookie, Header, ServerCookie, INTERLEAVED, REQUEST, RESPONSE};
 use crate::measure::{Measured, Times};
 use crate::refusal::Refusal;
@@ -88,12 +88,17 @@ pub(crate) struct Response<'a> {
 }
 
 impl<'a> Response<'a> {
-    /// Reads a datagram (refusals 1 to 5).
+    /// Reads a datagram (refusals 1 to 5, 13).
     pub fn read(datagram: &'a [u8]) -> Result<Self, Refusal> {
         let header = Header::read(datagram, RESPONSE)?;
         let mut chunk = None;
-        for field in Fields::of(datagram) {
+        let mut fields = Fields::of(datagram);
+        while let Some(field) = fields.next() {
             let field = field?;
+            if field.kind == MAC {
+                chain::after_mac(fields)?;
+                break;
+            }
             if field.kind == FILTER_RESPONSE && chunk.is_none() {
                 chunk = Some(field.data);
             }

@@ -1,6 +1,6 @@
 //! Refusal numbers.
 
-/// Why a call was refused. The value is document 01's number.
+/// Why a call was refused. The value is document 01's number, or document 02's.
 #[derive(Clone, Copy, Debug, PartialEq, Eq)]
 #[repr(u8)]
 pub enum Refusal {
@@ -28,10 +28,12 @@ pub enum Refusal {
     Room = 11,
     /// The cookie is not in the store, or its time was already reported.
     NotStored = 12,
+    /// A field stands after the first MAC.
+    AfterMac = 13,
 }
 
 impl Refusal {
-    /// Document 01's number.
+    /// The document's number.
     pub fn number(self) -> u8 {
         self as u8
     }

@@ -117,7 +117,7 @@ impl Server<'_> {
 }
 
 impl Store {
-    /// Writes the answer to a request (refusals 6, 1 to 5, 8, 11); gives its length,
+    /// Writes the answer to a request (refusals 6, 1 to 5, 13, 8, 11); gives its length,
     /// which is the request's.
     pub fn answer(
         &mut self,

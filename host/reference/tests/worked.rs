@@ -61,6 +61,23 @@ fn m3_m4_field_lengths() {
 }
 
 #[test]
+fn w205_nothing_after_the_mac() {
+    const MAC: &[u8] = &[0xF5, 0x02, 0, 8, 1, 2, 3, 4];
+    const OTHER: &[u8] = &[0xF5, 0x01, 0, 4];
+    for (fields, expected) in [
+        (&[MAC][..], Ok(())),
+        (&[OTHER, MAC], Ok(())),
+        (&[MAC, OTHER], Err(Refusal::AfterMac)),
+        (&[MAC, MAC], Err(Refusal::AfterMac)),
+        (&[MAC, OTHER, MAC], Err(Refusal::AfterMac)),
+        (&[MAC, OTHER, &[0xF5, 0x01, 0, 3]], Err(Refusal::FieldLength)),
+        (&[MAC, &[0xF5, 0x01, 0, 5, 0, 0, 0, 1]], Err(Refusal::FieldPadding)),
+    ] {
+        assert_eq!(sound(&with_field(&fields.concat()), REQUEST), expected, "{fields:?}");
+    }
+}
+
+#[test]
 fn m5_m6_m7_positions() {
     let mut third = [0; 15];
     third[..3].copy_from_slice(&[0x00, 0x10, 0x02]);

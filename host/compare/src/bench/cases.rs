@@ -147,7 +147,7 @@ fn long_request(fields: &[(u16, &[u8])]) -> Vec<u8> {
 fn many_fields() -> State {
     let mut fields: Vec<(u16, &[u8])> = vec![(0x1234, &[]); 60];
     fields.push((chain::FILTER_REQUEST, &[0; 256]));
-    fields.extend([(0xF502, &[0; 16][..]); 10]);
+    fields.extend([(0x1234, &[0; 16][..]); 10]);
     fields.push((chain::SERVER_INFORMATION, &[0; 4]));
     fields.extend([(0x1234, &[][..]); 60]);
     fields.push((chain::DRAFT_NAME, chain::NAME));

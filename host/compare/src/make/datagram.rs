@@ -7,8 +7,8 @@ use reference::chain;
 use reference::header::{self, ClientCookie, Header, ServerCookie, INTERLEAVED};
 use reference::store::Record;
 
-/// Types of fields that have a meaning, one that is unknown here, and one that no draft has.
-const KINDS: [u16; 7] = [0xF501, 0xF502, 0xF503, 0xF504, 0xF505, 0xF5FF, 0x1234];
+/// Types of fields that have a meaning, and one that no draft has.
+const KINDS: [u16; 6] = [0xF501, 0xF503, 0xF504, 0xF505, 0xF5FF, 0x1234];
 
 /// Appends a field with its padding.
 fn push(datagram: &mut Vec<u8>, kind: u16, data: &[u8]) {
@@ -30,6 +30,18 @@ fn push_any(random: &mut Random, datagram: &mut Vec<u8>) {
         let n = random.pick(&[0, 1, 2, 3, 4, 4, 5, 8, 13, 16, 27, 40]);
         let data = random.octets(n);
         push(datagram, random.pick(&KINDS), &data);
+    }
+}
+
+/// Once in a while appends a MAC, and then as often as not other fields or a second MAC.
+fn push_mac(random: &mut Random, datagram: &mut Vec<u8>) {
+    while random.one_in(5) {
+        let n = random.pick(&[0, 1, 4, 16, 20, 20, 21]);
+        let data = random.octets(n);
+        push(datagram, chain::MAC, &data);
+        if random.one_in(2) {
+            push_any(random, datagram);
+        }
     }
 }
 
@@ -148,6 +160,7 @@ pub fn response(random: &mut Random, open: Option<&Association>, t4: u64) -> Vec
     push_chunk(random, &mut datagram, c.into());
     push_any(random, &mut datagram);
     fill(random, &mut datagram);
+    push_mac(random, &mut datagram);
     if random.one_in(8) {
         damage(random, &mut datagram);
     }
@@ -202,6 +215,7 @@ pub fn request(random: &mut Random, row: &[Record]) -> Vec<u8> {
         }
     }
     fill(random, &mut datagram);
+    push_mac(random, &mut datagram);
     if random.one_in(8) {
         damage(random, &mut datagram);
     }
