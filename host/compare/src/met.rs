@@ -17,7 +17,7 @@ impl Met {
     pub fn count(&mut self, call: &Call, outcome: &Outcome) {
         let key = format!("{} {}", name(call), described(call, outcome));
         *self.0.entry(key).or_default() += 1;
-        if let Some(mac) = beside_mac(call, outcome.returned.refusal()) {
+        if let Some(mac) = mac_outcome(call, outcome.returned.refusal()) {
             self.also(&format!("{} {mac}", name(call)));
         }
         if matches!(call, Call::Answer(_)) && outcome.returned.refusal() == 0 {
@@ -87,7 +87,7 @@ pub fn interleaved(datagram: &[u8]) -> &'static str {
 
 /// What a datagram with a MAC led to: taken with the MAC as its last field, refused with 13 for
 /// one MAC or for more, or with 4 or 5 for a field after it.
-fn beside_mac(call: &Call, refusal: u8) -> Option<&'static str> {
+fn mac_outcome(call: &Call, refusal: u8) -> Option<&'static str> {
     let datagram = match call {
         Call::Receive { datagram, .. } | Call::Sound { datagram, .. } => datagram,
         Call::Answer(args) => &args.request,
@@ -104,7 +104,7 @@ fn beside_mac(call: &Call, refusal: u8) -> Option<&'static str> {
     }
 }
 
-/// The outcomes that [`beside_mac`] tells apart.
+/// The outcomes that [`mac_outcome`] tells apart.
 const MAC_OUTCOMES: [&str; 5] =
     ["0, a MAC last", "13, one MAC", "13, more MACs", "4 after a MAC", "5 after a MAC"];
 
@@ -192,7 +192,7 @@ const OUTCOMES: [&str; 18] = [
 ];
 
 /// Every refusal of every call, every judgement with every chunk outcome, half an era in each
-/// of the four differences, every outcome beside a MAC, every verdict, 6 for every clause of a
+/// of the four differences, every outcome of a datagram with a MAC, every verdict, 6 for every clause of a
 /// head's rule.
 fn required() -> Vec<String> {
     let mut required: Vec<String> = OUTCOMES.map(String::from).to_vec();
