@@ -13,8 +13,8 @@
  *
  * A refusal is a number from 1 to 13. It changes no buffer, and the other numbers of the answer are 0; that is proved of
  * every call (docs/CLAIMS.md, "Refusals"), as is that the number is one of those that its comment below names. Where
- * several apply, the first in this order is given: 6, 7, 1, 2, 3, then 4 and 5 field by field, 13, 9, 10, 8, 11,
- * 12.
+ * several apply, the first in this order is given:
+ *   6, 7, 1, 2, 3, then 4 and 5 field by field, 13, 9, 10, 8, 11, 12.
  *
  * COOKIES ARE NEVER USED TWICE. The caller draws every client cookie and every server cookie at random and never gives one
  * a second time. The library refuses only the repeats that it can see, and with an older cookie given again a late
@@ -48,7 +48,7 @@ enum {
     NTP5_NOT_INTERLEAVED = 10,/* an interleaved response to a request that sent no server cookie */
     NTP5_NO_ROOM = 11,        /* the output is shorter than what is to be written */
     NTP5_NOT_STORED = 12,     /* the server cookie is not in the store, or its time was reported already */
-    NTP5_AFTER_MAC = 13       /* a field stands after the first MAC (type 0xF502), which is the last field if there is one */
+    NTP5_AFTER_MAC = 13       /* a field stands after the first MAC (type 0xF502); a MAC may only be the last field */
 };
 
 /*

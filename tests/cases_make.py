@@ -311,7 +311,7 @@ def field(room):
 
 
 def datagram(mode, most):
-    """A sound datagram, and the places where its fields begin."""
+    """A datagram of sound fields, and the places where they begin."""
     head = bytes([R.randrange(4) * 64 + 5 * 8 + mode])
     made = head + (octets(47) if R.random() < 0.5 else bytes(47))
     size, starts = R.randrange(48, most + 1, 4), []

@@ -130,7 +130,7 @@ def main():
     print("sound 4 2c00*46")
     print("sound 4 2c00*47,f5010003")
     print("sound 4 2c00*47,f5010005,ff,000001")
-    story.note("A MAC may stand as the last field. A field after it is covered by no code: the whole datagram is refused (13).")
+    story.note("A MAC may stand as the last field. It would not cover a field after it: such a datagram is refused (13).")
     print("sound 4 2c00*47,f5010004,f5020014,99*16")
     print("sound 4 2c00*47,f5020014,99*16,f5010004")
 

@@ -5,7 +5,7 @@ use Prim.Native.Nat.{ℕ, zero, suc, _<_, _≤_}
 use native.Mathlib.Omega.{arith}
 use borrow.Author.Tests.{eq-eqb, ne-eqb}
 use lib.ListN.{length, drop}
-use Rattle.chain.specs.Chain.{stepAt, stepRefusal, Walk, walk, chainRefusal, macRefusal, orElse, fieldsRefusal}
+use Rattle.chain.specs.Chain.{stepAt, stepRefusal, Walk, walk, chainRefusal, afterRefusal, orElse, fieldsRefusal}
 use Rattle.chain.specs.Field.{fieldsFrom}
 use Rattle.chain.specs.declared.cursor.Cursor.{Cursor}
 use Rattle.chain.specs.declared.cursor.Field.{Field}
@@ -31,14 +31,14 @@ module _ (s : List ℕ) (t : Step) (e : t ≡ stepAt s 0) where
     fields-next other =
         rw (chain-next s t e f c q, ← mac-from s (c .at), next-field s 0 t e f c q, ne-eqb (f .kind) 0xF502 other)
 
-    pub fields-mac : f .kind ≡ 0xF502 → orElse (stepRefusal (walk s (c .at) .stop)) (macRefusal (fieldsFrom s (c .at))) ≡ fieldsRefusal s
+    pub fields-mac : f .kind ≡ 0xF502 → orElse (stepRefusal (walk s (c .at) .stop)) (afterRefusal (fieldsFrom s (c .at))) ≡ fieldsRefusal s
     unfolding chainRefusal
     fields-mac mac = rw (walk-next s 0 t e f c q, next-field s 0 t e f c q, eq-eqb (f .kind) 0xF502 mac)
 
--- what stands at a place after the first MAC: nothing, or, as far as the datagram goes, a field or something wrong
+-- what stands at a place after the first MAC: nothing, or, before the end of the datagram, a field or something wrong
 
-pub nothing-behind : (s : List ℕ) (at : ℕ) → length s ≤ at → 0 ≡ orElse (stepRefusal (walk s at .stop)) (macRefusal (fieldsFrom s at))
-nothing-behind s at h = sym (ap (λ (w : Walk). orElse (stepRefusal (w .stop)) (macRefusal (w .fields))) (walk-ended s at h))
+pub nothing-behind : (s : List ℕ) (at : ℕ) → length s ≤ at → 0 ≡ orElse (stepRefusal (walk s at .stop)) (afterRefusal (fieldsFrom s at))
+nothing-behind s at h = sym (ap (λ (w : Walk). orElse (stepRefusal (w .stop)) (afterRefusal (w .fields))) (walk-ended s at h))
 
 not-ended : (s : List ℕ) (at : ℕ) (t : Step) → View s at t → at < length s → t ≡ End → ⊥
 not-ended s at t (ended h) l q = omega arith
@@ -56,13 +56,13 @@ module _ (s : List ℕ) (at : ℕ) (inside : at < length s) where
   wrong-behind t e at-an-end whole later q = absurd (not-ended s at (stepAt s at) (view s at) inside (sym e))
 
   -- all that follows is sound: there is a field
-  pub field-behind : stepRefusal (walk s at .stop) ≡ 0 → 13 ≡ orElse (stepRefusal (walk s at .stop)) (macRefusal (fieldsFrom s at))
+  pub field-behind : stepRefusal (walk s at .stop) ≡ 0 → 13 ≡ orElse (stepRefusal (walk s at .stop)) (afterRefusal (fieldsFrom s at))
   field-behind e = rw (eq-eqb _ _ e) (sym (go (stepAt s at) (view s at) refl))
     where
-      go : (t : Step) → View s at t → t ≡ stepAt s at → macRefusal (fieldsFrom s at) ≡ 13
+      go : (t : Step) → View s at t → t ≡ stepAt s at → afterRefusal (fieldsFrom s at) ≡ 13
       go t (ended h) q = absurd (omega arith)
       go t (cut h i) q = let z = walk-stop s at t q wrong-length in absurd (omega arith)
       go t (few h i) q = let z = walk-stop s at t q wrong-length in absurd (omega arith)
       go t (past h i j) q = let z = walk-stop s at t q wrong-length in absurd (omega arith)
       go t (nonzero h i j d) q = let z = walk-stop s at t q wrong-padding in absurd (omega arith)
-      go t (sound h i j d) q = ap macRefusal (next-field s at t q _ _ refl)
+      go t (sound h i j d) q = ap afterRefusal (next-field s at t q _ _ refl)

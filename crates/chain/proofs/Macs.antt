@@ -1,4 +1,4 @@
--- What stands after the first MAC: the definition is the sentence, and it is the same seen from before. Assumes nothing.
+-- What stands after the first MAC: the definition is the sentence, and tells the same of fields counted from an earlier place. Assumes nothing.
 use mathlib.Core.Path.{_≡_, refl, sym, ap, _∙_}
 use mathlib.Core.Bool.{Bool, true, false, cond}
 use mathlib.Core.List.{List, [], _∷_, _++_}
@@ -9,13 +9,13 @@ use borrow.Author.Tests.{eq-eqb, eqb-true}
 use lib.Dec.{eqb}
 use lib.ListN.{drop}
 use Rattle.octets.proofs.Tests.{by-test, by-outcome}
-use Rattle.chain.specs.Chain.{afterMac, macRefusal}
+use Rattle.chain.specs.Chain.{afterMac, afterRefusal}
 use Rattle.chain.specs.Field.{fieldsFrom, firstOf, NothingAfterMac}
 use Rattle.chain.specs.declared.cursor.Field.{Field}
 use Rattle.chain.specs.declared.find.Occurrence.the-variants.{At, Absent}
 use Rattle.chain.proofs.Walks.{shiftedFields, fields-from}
 
--- no field of a list is a MAC
+-- neither the first field is a MAC nor any of the rest
 absent-parts : (f : Field) (fs : List Field) → firstOf 0xF502 (f ∷ fs) ≡ Absent → (eqb (f .kind) 0xF502 ≡ false) × (firstOf 0xF502 fs ≡ Absent)
 unfolding firstOf
 absent-parts f fs n = go (eqb (f .kind) 0xF502) n
@@ -46,15 +46,15 @@ pub absent-after : (fs : List Field) → firstOf 0xF502 fs ≡ Absent → afterM
 absent-after [] n = refl
 absent-after (f ∷ fs) n = let p = absent-parts f fs n in rw (p .0) (absent-after fs (p .1))
 
--- seen from n octets before, it is the same
+-- counted from n octets before, it is the same
 
-all-shifted : (n : ℕ) (fs : List Field) → macRefusal (shiftedFields n fs) ≡ macRefusal fs
+all-shifted : (n : ℕ) (fs : List Field) → afterRefusal (shiftedFields n fs) ≡ afterRefusal fs
 all-shifted n [] = refl
 all-shifted n (f ∷ fs) = refl
 
-mac-shifted : (n : ℕ) (fs : List Field) → macRefusal (afterMac (shiftedFields n fs)) ≡ macRefusal (afterMac fs)
+mac-shifted : (n : ℕ) (fs : List Field) → afterRefusal (afterMac (shiftedFields n fs)) ≡ afterRefusal (afterMac fs)
 mac-shifted n [] = refl
 mac-shifted n (f ∷ fs) = by-outcome (eqb (f .kind) 0xF502) (λ e. rw e (all-shifted n fs)) (λ e. rw e (mac-shifted n fs))
 
-pub mac-from : (s : List ℕ) (n : ℕ) → macRefusal (afterMac (fieldsFrom s n)) ≡ macRefusal (afterMac (fieldsFrom (drop n s) 0))
-mac-from s n = ap (λ (fs : List Field). macRefusal (afterMac fs)) (fields-from s n) ∙ mac-shifted n (fieldsFrom (drop n s) 0)
+pub mac-from : (s : List ℕ) (n : ℕ) → afterRefusal (afterMac (fieldsFrom s n)) ≡ afterRefusal (afterMac (fieldsFrom (drop n s) 0))
+mac-from s n = ap (λ (fs : List Field). afterRefusal (afterMac fs)) (fields-from s n) ∙ mac-shifted n (fieldsFrom (drop n s) 0)

@@ -6,7 +6,7 @@ use lib.ListN.{drop}
 use Rattle.octets.proofs.Tests.{by-test}
 use Rattle.header.specs.Header.{refusal}
 use Rattle.header.proofs.Refusals.{header-number}
-use Rattle.chain.specs.Chain.{stepRefusal, walk, chainRefusal, afterMac, macRefusal, soundRefusal}
+use Rattle.chain.specs.Chain.{stepRefusal, walk, chainRefusal, afterMac, afterRefusal, soundRefusal}
 use Rattle.chain.specs.declared.cursor.Field.{Field}
 use Rattle.chain.specs.declared.cursor.Step.{Step}
 use Rattle.chain.specs.declared.cursor.Step.the-variants.{Found, WrongLength, WrongPadding, End}
@@ -25,6 +25,6 @@ sound-number P none one two three four five thirteen s wanted =
     stop WrongPadding = five
     stop End = none
 
-    mac : (fs : List Field) → P (macRefusal fs)
+    mac : (fs : List Field) → P (afterRefusal fs)
     mac [] = none
     mac (f ∷ fs) = thirteen

@@ -20,7 +20,7 @@ PlaceReached = (s : List ℕ) (at : ℕ) (f : Field) (c : Cursor) → stepAt s a
 abbrev pub FieldsInside : Type 0
 FieldsInside = (s : List ℕ) (at : ℕ) → AllInside s (fieldsFrom s at)
 
--- the check accepts exactly the chains: empty, or one sound field followed by a chain
+-- neither 4 nor 5 is given exactly where the octets are a chain: empty, or one sound field followed by a chain
 abbrev pub ChainsAccepted : Type 0
 ChainsAccepted = (s : List ℕ) → chainRefusal s ≡ 0 ↔ Chain s
 
@@ -28,7 +28,7 @@ ChainsAccepted = (s : List ℕ) → chainRefusal s ≡ 0 ↔ Chain s
 abbrev pub SoundDatagrams : Type 0
 SoundDatagrams = (s : List ℕ) (wanted : ℕ) → soundRefusal s wanted ≡ 0 ↔ (Passes s wanted × Chain (drop 48 s) × NothingAfterMac (fieldsOf s))
 
--- refusal 13 is given exactly when only the last of the three fails: a wrong header or field is refused with its own number, wherever it stands
+-- refusal 13 is given exactly when only the last of the three fails: never where the header or a field, also one after the MAC, is wrong
 abbrev pub AfterMacRefused : Type 0
 AfterMacRefused = (s : List ℕ) (wanted : ℕ) → soundRefusal s wanted ≡ 13 ↔ (Passes s wanted × Chain (drop 48 s) × (NothingAfterMac (fieldsOf s) → ⊥))
 

@@ -29,8 +29,8 @@ stepped r rs = record { refusal = r .refusal; saved = r .saved; records = rs }
 abbrev pub refusedStep : ℕ → List Record → Stepped
 refusedStep n rs = record { refusal = n; saved = 0; records = rs }
 
--- `request` is its header, or what it or the arguments are refused by (6, then 1 to 5 and 13): then 8 and 11 are not looked at. `short`: the output
--- is shorter than the answer. The records change only where nothing refuses
+-- `request` is its header, or what it or the arguments are refused by (6, then 1 to 5 and 13): then 8 and 11 are not looked at. `short`: the
+-- output is shorter than the answer. The records change only where nothing refuses
 unfoldable pub answerStep : (request : Reading) (short : Bool) (freshCookie : ℕ) → List Record → Stepped
 answerStep (Refused n) short freshCookie rs = refusedStep (refusedAnswer (wrongRecords rs) n false false) rs
 answerStep (Fields asked) short freshCookie rs =

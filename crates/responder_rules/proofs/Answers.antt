@@ -22,7 +22,7 @@ use Rattle.chain.specs.declared.find.Occurrence.the-variants.{Absent}
 use Rattle.field_role.specs.declared.Role.the-variants.{FilterRequest}
 use Rattle.chain.proofs.Datagrams.{header-passes, sound-datagram, fields-pass}
 use Rattle.field_role.proofs.Roles.{good-parts, size-allowed}
-use Rattle.chain.proofs.Contents.{none-placed, fit-append, chain-fours, length-chain-append, fields-written, contents-written}
+use Rattle.chain.proofs.Contents.{NoneOf, none-placed, fit-append, chain-fours, length-chain-append, fields-written, contents-written}
 use Rattle.store_rules.specs.Row.{Record}
 use Rattle.responder_rules.specs.Answer.{Given, wantsInterleaved, savedTime, sentHeader, answersTo, paddingOf, answerFields, answerOctets, asking, sentFields}
 use Rattle.responder_rules.specs.Claim.{Accepted, InRange, AnswerClaim}
@@ -57,6 +57,10 @@ module _ (g : Given) (a : Accepted g) where
       let p = passed in
       fit-append answers (paddingOf left) (all-fit (g .request) (g .filter) (g .information) (a .filter) (a .information) [] (fieldsOf (g .request))) (padding-fits left (omega arith))
 
+  -- none of them is a MAC
+  no-mac : NoneOf 0xF502 (sentFields g)
+  no-mac = fields-no-mac (g .request) (g .filter) (g .information)
+
   -- an answer is as long as its request
   pub answer-size : (row : List Record) → length (answerOctets g row) ≡ length (g .request)
   unfolding answerOctets
@@ -77,10 +81,10 @@ module _ (g : Given) (a : Accepted g) where
     sent = sentHeader g row
 
     -- the fields of an answer are not refused
-    fields-passed : fieldsRefusal (drop 48 (answerOctets g row)) ≡ 0
+    sent-pass : fieldsRefusal (drop 48 (answerOctets g row)) ≡ 0
     unfolding answerOctets
-    fields-passed =
-        rw (drop-at (headerOctets sent) (chainOctets (sentFields g)) 48 (length-header sent)) (fields-pass (sentFields g) fields-fit (fields-no-mac (g .request) (g .filter) (g .information)))
+    sent-pass =
+        rw (drop-at (headerOctets sent) (chainOctets (sentFields g)) 48 (length-header sent)) (fields-pass (sentFields g) fields-fit no-mac)
 
     -- an answer is sound where a response is wanted
     pub answer-sound : soundRefusal (answerOctets g row) 4 ≡ 0
@@ -97,7 +101,7 @@ module _ (g : Given) (a : Accepted g) where
           version = version-written sent (chainOctets (sentFields g)) (omega arith) (lit< tt);
           mode = mode-written sent (chainOctets (sentFields g)) (omega arith) (lit< tt);
         }))
-        fields-passed
+        sent-pass
 
     -- its fields are those that the page lists and no others
     pub answer-fields : fieldsOf (answerOctets g row) ≡ placed 48 (sentFields g)
@@ -106,7 +110,7 @@ module _ (g : Given) (a : Accepted g) where
 
     -- none of them is a MAC
     pub answer-no-mac : firstOf 0xF502 (fieldsOf (answerOctets g row)) ≡ Absent
-    answer-no-mac = rw answer-fields (none-placed 0xF502 (sentFields g) 48 (fields-no-mac (g .request) (g .filter) (g .information)))
+    answer-no-mac = rw answer-fields (none-placed 0xF502 (sentFields g) 48 no-mac)
 
     -- and so are their data
     pub answer-contents : contentsOf (answerOctets g row) (fieldsOf (answerOctets g row)) ≡ sentFields g

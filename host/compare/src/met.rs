@@ -18,7 +18,7 @@ impl Met {
         let key = format!("{} {}", name(call), described(call, outcome));
         *self.0.entry(key).or_default() += 1;
         if let Some(mac) = mac_outcome(call, outcome.returned.refusal()) {
-            self.also(&format!("{} {mac}", name(call)));
+            self.also(&mac);
         }
         if matches!(call, Call::Answer(_)) && outcome.returned.refusal() == 0 {
             let Returned::Written(written) = outcome.returned else { return };
@@ -86,27 +86,36 @@ pub fn interleaved(datagram: &[u8]) -> &'static str {
 }
 
 /// What a datagram with a MAC led to: taken with the MAC as its last field, refused with 13 for
-/// one MAC or for more, or with 4 or 5 for a field after it.
-fn mac_outcome(call: &Call, refusal: u8) -> Option<&'static str> {
-    let datagram = match call {
-        Call::Receive { datagram, .. } | Call::Sound { datagram, .. } => datagram,
-        Call::Answer(args) => &args.request,
+/// one MAC or for more, or with 4 or 5 for a field that comes after the MAC and a sound one.
+fn mac_outcome(call: &Call, refusal: u8) -> Option<String> {
+    let (what, datagram) = match call {
+        Call::Sound { mode, datagram } => (format!("sound {mode}"), datagram),
+        Call::Receive { datagram, .. } => ("receive".into(), datagram),
+        Call::Answer(args) => ("answer".into(), &args.request),
         _ => return None,
     };
-    let macs = Fields::of(datagram).map_while(Result::ok).filter(|field| field.kind == MAC).count();
-    match (refusal, macs) {
-        (0, 1) => Some(MAC_OUTCOMES[0]),
-        (13, 1) => Some(MAC_OUTCOMES[1]),
-        (13, 2..) => Some(MAC_OUTCOMES[2]),
-        (4, 1..) => Some(MAC_OUTCOMES[3]),
-        (5, 1..) => Some(MAC_OUTCOMES[4]),
-        _ => None,
-    }
+    let fields = Fields::of(datagram).map_while(Result::ok);
+    let kinds: Vec<u16> = fields.map(|field| field.kind).collect();
+    let (last, before) = kinds.split_last()?;
+    let outcome = match (refusal, before.contains(&MAC), *last == MAC) {
+        (0, false, true) => 0,
+        (13, true, false) => 1,
+        (13, true, true) => 2,
+        (4, true, _) => 3,
+        (5, true, _) => 4,
+        _ => return None,
+    };
+    Some(format!("{what}: {}", MAC_OUTCOMES[outcome]))
 }
 
 /// The outcomes that [`mac_outcome`] tells apart.
-const MAC_OUTCOMES: [&str; 5] =
-    ["0, a MAC last", "13, one MAC", "13, more MACs", "4 after a MAC", "5 after a MAC"];
+const MAC_OUTCOMES: [&str; 5] = [
+    "0, a MAC last",
+    "13, a MAC and another field last",
+    "13, a MAC and a MAC last",
+    "4 after a MAC and a sound field",
+    "5 after a MAC and a sound field",
+];
 
 /// An outcome in words: the refusal, or 0 and what sets it apart from other successes.
 fn described(call: &Call, outcome: &Outcome) -> String {
@@ -192,8 +201,8 @@ const OUTCOMES: [&str; 18] = [
 ];
 
 /// Every refusal of every call, every judgement with every chunk outcome, half an era in each
-/// of the four differences, every outcome of a datagram with a MAC, every verdict, 6 for every clause of a
-/// head's rule.
+/// of the four differences, every outcome of a datagram with a MAC, every verdict, 6 for
+/// every clause of a head's rule.
 fn required() -> Vec<String> {
     let mut required: Vec<String> = OUTCOMES.map(String::from).to_vec();
     for (call, numbers) in REFUSALS {
@@ -207,8 +216,8 @@ fn required() -> Vec<String> {
         required.extend(DIFFERENCES.map(|d| format!("also: half an era in {d} alone, {mode}")));
     }
     required.extend(DIFFERENCES.map(|d| format!("measure 5 {d}")));
-    for call in ["sound", "receive", "answer"] {
-        required.extend(MAC_OUTCOMES.map(|mac| format!("also: {call} {mac}")));
+    for call in ["sound 3", "sound 4", "receive", "answer"] {
+        required.extend(MAC_OUTCOMES.map(|mac| format!("also: {call}: {mac}")));
     }
     for clause in Clause::ALL {
         required.push(format!("also: head out of range: {clause:?}"));

@@ -10,7 +10,8 @@ fn sides_do_the_same() {
     for case in &CASES {
         for times in [1, 2] {
             let [library, plain, lent] = Side::ALL.map(|side| case.run(side, times));
-            let expected = if case.name == "receive-refused-9" { 9 } else { 0 };
+            let refused = case.name.split_once("-refused-");
+            let expected = refused.map_or(0, |(_, number)| number.parse().expect("a number"));
             for state in [&library, &plain, &lent] {
                 assert_eq!(state.refusal, expected, "{}", case.name);
                 assert_eq!(state.out, library.out, "{}", case.name);

@@ -2,6 +2,7 @@
 #![forbid(unsafe_code)]
 
 use compare::interface::Interface;
+use ntp5::Refusal;
 use std::path::{Path, PathBuf};
 use std::{env, fs};
 
@@ -48,6 +49,25 @@ fn rattle() -> Interface {
         parameters.filter(|(name, _)| name == own).for_each(|pair| pair.0 = name.into());
     }
     interface
+}
+
+/// The header's first enum is the refusals: 0, then those of the Rust wrapper by number.
+#[test]
+fn refusal_numbers() {
+    let header = text(&top().join("include/ntp5.h"));
+    let (_, rest) = header.split_once("enum {").expect("an enum");
+    let (refusals, _) = rest.split_once("};").expect("its end");
+    let named = refusals.lines().filter_map(|line| line.trim().split_once(" = "));
+    let numbers: Vec<(&str, u8)> = named
+        .map(|(name, value)| {
+            let digits = value.chars().take_while(char::is_ascii_digit).collect::<String>();
+            (name, digits.parse().expect("a number"))
+        })
+        .collect();
+    let expected = (0..=Refusal::ALL.len() as u8).collect::<Vec<_>>();
+    assert_eq!(numbers.iter().map(|&(_, number)| number).collect::<Vec<_>>(), expected);
+    assert!(Refusal::ALL.iter().zip(1..).all(|(refusal, number)| refusal.number() == number));
+    assert_eq!(numbers.last(), Some(&("NTP5_AFTER_MAC", Refusal::AfterMac.number())));
 }
 
 #[test]

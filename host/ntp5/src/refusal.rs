@@ -54,7 +54,7 @@ impl Refusal {
         Refusal::AfterMac,
     ];
 
-    /// The document's number.
+    /// The number of document 01 or 02.
     pub fn number(self) -> u8 {
         self as u8
     }

@@ -87,20 +87,20 @@ pub fn sound(datagram: &[u8], wanted_mode: u8) -> Result<(), Refusal> {
     check(datagram)
 }
 
-/// Whether every field of a datagram can be taken from its chain, and none stands after the
-/// first MAC (refusals 4, 5, 13).
+/// Whether every field of a datagram can be taken from its chain, and none follows the first
+/// MAC (refusals 4, 5, 13).
 pub fn check(datagram: &[u8]) -> Result<(), Refusal> {
     let mut fields = Fields::of(datagram);
     while let Some(field) = fields.next() {
         if field?.kind == MAC {
-            return after_mac(fields);
+            return nothing_left(fields);
         }
     }
     Ok(())
 }
 
-/// Refuses the fields after the first MAC: the first wrong one with its number, else any with 13.
-pub fn after_mac(fields: Fields) -> Result<(), Refusal> {
+/// Refuses fields that follow a MAC: by the first wrong one's number, else with 13.
+pub fn nothing_left(fields: Fields) -> Result<(), Refusal> {
     let mut outcome = Ok(());
     for field in fields {
         field?;

@@ -96,7 +96,7 @@ impl<'a> Response<'a> {
         while let Some(field) = fields.next() {
             let field = field?;
             if field.kind == MAC {
-                chain::after_mac(fields)?;
+                chain::nothing_left(fields)?;
                 break;
             }
             if field.kind == FILTER_RESPONSE && chunk.is_none() {

@@ -33,7 +33,7 @@ pub enum Refusal {
 }
 
 impl Refusal {
-    /// The document's number.
+    /// The number of document 01 or 02.
     pub fn number(self) -> u8 {
         self as u8
     }

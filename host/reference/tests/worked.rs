@@ -73,7 +73,11 @@ fn w205_nothing_after_the_mac() {
         (&[MAC, OTHER, &[0xF5, 0x01, 0, 3]], Err(Refusal::FieldLength)),
         (&[MAC, &[0xF5, 0x01, 0, 5, 0, 0, 0, 1]], Err(Refusal::FieldPadding)),
     ] {
-        assert_eq!(sound(&with_field(&fields.concat()), REQUEST), expected, "{fields:?}");
+        for (mode, first) in [(REQUEST, 0x2B), (RESPONSE, 0x2C)] {
+            let mut datagram = with_field(&fields.concat());
+            datagram[0] = first;
+            assert_eq!(sound(&datagram, mode), expected, "mode {mode}, {fields:?}");
+        }
     }
 }
 

@@ -159,6 +159,13 @@ fn three_hundred_fields() -> State {
     State::with_datagram(long_request(&[(0x1234, &[][..]); 299]))
 }
 
+/// The same with a MAC first: refused with 13, after all fields were looked at.
+fn fields_after_a_mac() -> State {
+    let mut fields = [(0x1234, &[][..]); 299];
+    fields[0].0 = chain::MAC;
+    State::with_datagram(long_request(&fields))
+}
+
 /// As [`State::asked`], but with another client cookie in the response.
 fn not_asked() -> State {
     let mut state = State::asked(16, 0);
@@ -179,7 +186,7 @@ fn half_an_era() -> State {
 
 /// All cases.
 #[rustfmt::skip]
-pub const CASES: [Case; 19] = [
+pub const CASES: [Case; 20] = [
     Case { name: "poll-16", state: || State::opened(16), reset: Reset::Cookie, calls: POLL },
     Case { name: "poll-512", state: || State::opened(512), reset: Reset::Cookie, calls: POLL },
     Case { name: "receive-basic-16", state: || State::asked(16, 0), reset: Reset::Record, calls: RECEIVE },
@@ -196,6 +203,7 @@ pub const CASES: [Case; 19] = [
     Case { name: "weight", state: header_only, reset: Reset::Nothing, calls: WEIGHT },
     Case { name: "weight-by-octets", state: header_only, reset: Reset::Nothing, calls: WEIGHT_BY_OCTETS },
     Case { name: "sound-1280", state: three_hundred_fields, reset: Reset::Nothing, calls: SOUND },
+    Case { name: "sound-refused-13", state: fields_after_a_mac, reset: Reset::Nothing, calls: SOUND },
     Case { name: "add", state: header_only, reset: Reset::Nothing, calls: ADD },
     Case { name: "measure", state: header_only, reset: Reset::Nothing, calls: MEASURE },
     Case { name: "measure-half-era", state: half_an_era, reset: Reset::Nothing, calls: MEASURE },

@@ -7,7 +7,7 @@ use reference::chain;
 use reference::header::{self, ClientCookie, Header, ServerCookie, INTERLEAVED};
 use reference::store::Record;
 
-/// Types of fields that have a meaning, and one that no draft has.
+/// Types of fields that have a meaning, and one that no draft has; MACs come from [`push_mac`].
 const KINDS: [u16; 6] = [0xF501, 0xF503, 0xF504, 0xF505, 0xF5FF, 0x1234];
 
 /// Appends a field with its padding.
@@ -33,7 +33,7 @@ fn push_any(random: &mut Random, datagram: &mut Vec<u8>) {
     }
 }
 
-/// Once in a while appends a MAC, and then as often as not other fields or a second MAC.
+/// Once in a while appends a MAC, after which there may be other fields and a second MAC.
 fn push_mac(random: &mut Random, datagram: &mut Vec<u8>) {
     while random.one_in(5) {
         let n = random.pick(&[0, 1, 4, 16, 20, 20, 21]);
