@@ -11,9 +11,9 @@ OTHER, EMPTY = extension(PADDING, b"\xff"), extension(PADDING, b"")
 WRONG_LENGTH, WRONG_PADDING = bytes.fromhex("f5010003"), bytes.fromhex("f5010005ff000001")      # 4, and 5
 
 LAST = [(MAC,), (LONG_MAC,), (EMPTY_MAC,), (OTHER, MAC), (OTHER, OTHER, LONG_MAC), (EMPTY, EMPTY_MAC)]
-NO_MAC = [(extension(kind, b""), OTHER) for kind in (0x02F5, 0x1202, 0xF500, 0xF503)]      # types that differ from it in an octet
-NOT_LAST = [(MAC, OTHER), (LONG_MAC, OTHER), (EMPTY_MAC, EMPTY), (OTHER, MAC, OTHER), (MAC, OTHER, OTHER), (MAC, EMPTY), (MAC, MAC),
-            (MAC, OTHER, MAC), (OTHER, LONG_MAC, LONG_MAC), (EMPTY_MAC, EMPTY_MAC)]
+NO_MAC = [(extension(kind, b""), OTHER) for kind in (0x02F5, 0x1202, 0xF500, 0xF503)]
+NOT_LAST = [(MAC, OTHER), (LONG_MAC, OTHER), (EMPTY_MAC, EMPTY), (OTHER, MAC, OTHER), (MAC, OTHER, OTHER), (MAC, EMPTY),
+            (MAC, MAC), (MAC, OTHER, MAC), (OTHER, LONG_MAC, LONG_MAC), (EMPTY_MAC, EMPTY_MAC)]
 WRONG = [(MAC, WRONG_LENGTH), (MAC, WRONG_PADDING), (MAC, WRONG_PADDING, WRONG_LENGTH), (MAC, WRONG_LENGTH, WRONG_PADDING),
          (MAC, OTHER, WRONG_LENGTH), (MAC, OTHER, WRONG_PADDING), (MAC, MAC, WRONG_PADDING), (WRONG_LENGTH, MAC, OTHER),
          (WRONG_PADDING, MAC, MAC), (MAC, bytes.fromhex("f5010008")), (bytes.fromhex("f5020003"),),
@@ -23,7 +23,7 @@ WRONG = [(MAC, WRONG_LENGTH), (MAC, WRONG_PADDING), (MAC, WRONG_PADDING, WRONG_L
 def sounding(lines):
     for mode, name in ((3, "Requests"), (4, "Responses")):
         head = bytes([5 * 8 + mode]) + bytes(47)
-        lines.group(f"{name} with a MAC: alone and last; types like it; not last or twice, 13; a wrong field before or after it, 4 or 5")
+        lines.group(f"{name} with a MAC: alone, last; types like it; not last or twice, 13; a wrong field beside it, 4 or 5")
         for fields in LAST + NO_MAC + NOT_LAST + WRONG:
             lines.add(f"sound {mode} {text_of(head + b''.join(fields))}")
     lines.group("1, 2 and 3 come before 13, and the header is read whatever stands after a MAC")
@@ -35,7 +35,8 @@ def sounding(lines):
 
 def receiving(lines):
     taken = chunk(b"\x11" * 16)
-    lines.fresh("Receive with a MAC: 13 after 6, 7 and 5, before 9 and 10, and uses no request up; last, the chunk is taken", (6, 0, 16))
+    lines.fresh("Receive with a MAC: 13 after 6, 7 and 5, before 9 and 10, uses no request up; last, its chunk is taken",
+                (6, 0, 16))
     lines.receive(6, 0, response(1, MAC, taken))
     lines.receive(7, 40, response(1, MAC, taken))
     lines.receive(6, 40, response(1, MAC, taken))
