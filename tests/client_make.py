@@ -118,7 +118,7 @@ sent 0 12
 
 
 def receiving(lines):
-    lines.fresh("Receive: refusals 6, 7, 1, 2, 3, 4 and 5, 9, 10; none uses the request up", (0, 0, 16))
+    lines.fresh("Receive: refusals 6, 7, 1, 2, 3, 4 and 5, 13, 9, 10; none uses the request up", (0, 0, 16))
     good = response(1, chunk(bytes(range(16))))
     lines.receive(16, 1, good)
     lines.receive(0, 0, b"")
@@ -133,6 +133,8 @@ def receiving(lines):
     lines.receive(0, 40, good + bytes.fromhex("f5010005ff000001f5010003"))
     lines.receive(0, 40, good + bytes.fromhex("f5010003f5010005ff000001"))
     lines.receive(0, 40, response(2, bytes.fromhex("f5010003")))
+    lines.receive(0, 40, response(2, bytes.fromhex("f5020004f5010003")))
+    lines.receive(0, 40, response(2, bytes.fromhex("f5020004f5010004")))
     lines.receive(0, 40, response(2, flags=2))
     lines.receive(0, 40, response(1, flags=0xFFFF, leap=3))
     lines.receive(0, 40, good)

@@ -101,7 +101,7 @@ def storing(lines):
 
 
 def refusing(lines):
-    lines.group("Answer: refusals in the page's order, 6, 1, 2, 3, 4 and 5, 8, 11; none changes the store", 2)
+    lines.group("Answer: refusals in the page's order, 6, 1, 2, 3, 4 and 5, 13, 8, 11; none changes the store", 2)
     lines.answer(wanted(), fresh=7)
     bad = wanted()[:-2]
     for given in ({"leap": 4}, {"receive": 0}, {"estimate": 0}, {"filter_octets": FILTER[1:]}, {"filter_octets": b""},
@@ -109,7 +109,8 @@ def refusing(lines):
         lines.answer(bad, **given)
     damaged = [bad, request() + bytes(1236), b"\x23" + wanted()[1:], b"\x2c" + wanted()[1:],
                wanted() + bytes.fromhex("f5010003"), wanted() + bytes.fromhex("f5010008"),
-               wanted() + bytes.fromhex("f5010005ff000001f5010003"), wanted() + bytes.fromhex("f5010003f5010005ff000001")]
+               wanted() + bytes.fromhex("f5010005ff000001f5010003"), wanted() + bytes.fromhex("f5010003f5010005ff000001"),
+               wanted() + bytes.fromhex("f5020004f5010003"), wanted() + bytes.fromhex("f5020004f5010004")]
     for datagram in damaged:
         lines.answer(datagram, lent=b"")
     for fresh in (0, 7):
