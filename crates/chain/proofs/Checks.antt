@@ -37,8 +37,8 @@ module _ (s : List ℕ) (t : Step) (e : t ≡ stepAt s 0) where
 
 -- what stands at a place after the first MAC: nothing, or, before the end of the datagram, a field or something wrong
 
-pub nothing-behind : (s : List ℕ) (at : ℕ) → length s ≤ at → 0 ≡ orElse (stepRefusal (walk s at .stop)) (afterRefusal (fieldsFrom s at))
-nothing-behind s at h = sym (ap (λ (w : Walk). orElse (stepRefusal (w .stop)) (afterRefusal (w .fields))) (walk-ended s at h))
+pub end-after : (s : List ℕ) (at : ℕ) → length s ≤ at → 0 ≡ orElse (stepRefusal (walk s at .stop)) (afterRefusal (fieldsFrom s at))
+end-after s at h = sym (ap (λ (w : Walk). orElse (stepRefusal (w .stop)) (afterRefusal (w .fields))) (walk-ended s at h))
 
 not-ended : (s : List ℕ) (at : ℕ) (t : Step) → View s at t → at < length s → t ≡ End → ⊥
 not-ended s at t (ended h) l q = omega arith
@@ -50,14 +50,14 @@ not-ended s at t (sound h i j d) l q = let z : _≡_ {A = ℕ} 0 1 = cc in omega
 
 module _ (s : List ℕ) (at : ℕ) (inside : at < length s) where
   -- no field is found: the step's refusal is that of the whole
-  pub wrong-behind : (t : Step) → t ≡ stepAt s at → Stopped t → (whole later : ℕ) → stepRefusal t ≡ whole → stepRefusal t ≡ orElse whole later
-  wrong-behind t e wrong-length whole later q = ap (λ (n : ℕ). orElse n later) q
-  wrong-behind t e wrong-padding whole later q = ap (λ (n : ℕ). orElse n later) q
-  wrong-behind t e at-an-end whole later q = absurd (not-ended s at (stepAt s at) (view s at) inside (sym e))
+  pub wrong-after : (t : Step) → t ≡ stepAt s at → Stopped t → (whole later : ℕ) → stepRefusal t ≡ whole → stepRefusal t ≡ orElse whole later
+  wrong-after t e wrong-length whole later q = ap (λ (n : ℕ). orElse n later) q
+  wrong-after t e wrong-padding whole later q = ap (λ (n : ℕ). orElse n later) q
+  wrong-after t e at-an-end whole later q = absurd (not-ended s at (stepAt s at) (view s at) inside (sym e))
 
   -- all that follows is sound: there is a field
-  pub field-behind : stepRefusal (walk s at .stop) ≡ 0 → 13 ≡ orElse (stepRefusal (walk s at .stop)) (afterRefusal (fieldsFrom s at))
-  field-behind e = rw (eq-eqb _ _ e) (sym (go (stepAt s at) (view s at) refl))
+  pub field-after : stepRefusal (walk s at .stop) ≡ 0 → 13 ≡ orElse (stepRefusal (walk s at .stop)) (afterRefusal (fieldsFrom s at))
+  field-after e = rw (eq-eqb _ _ e) (sym (go (stepAt s at) (view s at) refl))
     where
       go : (t : Step) → View s at t → t ≡ stepAt s at → afterRefusal (fieldsFrom s at) ≡ 13
       go t (ended h) q = absurd (omega arith)

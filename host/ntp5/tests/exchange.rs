@@ -134,11 +134,11 @@ fn refusals_have_their_numbers() {
     for (place, refusal) in Refusal::ALL.into_iter().enumerate() {
         assert_eq!(usize::from(refusal.number()), place + 1);
     }
-    let mut behind = vec![0; 48];
-    behind[0] = 0x2B;
-    behind.extend([0xF5, 0x02, 0, 4, 0xF5, 0x01, 0, 4]);
-    assert_eq!(ntp5::sound(&behind, 3), Err(Refusal::AfterMac));
-    assert_eq!(ntp5::sound(&behind[..52], 3), Ok(()));
+    let mut after_mac = vec![0; 48];
+    after_mac[0] = 0x2B;
+    after_mac.extend([0xF5, 0x02, 0, 4, 0xF5, 0x01, 0, 4]);
+    assert_eq!(ntp5::sound(&after_mac, 3), Err(Refusal::AfterMac));
+    assert_eq!(ntp5::sound(&after_mac[..52], 3), Ok(()));
     let mut odd = [0; 17];
     assert_eq!(Store::lent(&mut odd).clear(), Err(Refusal::Argument));
     assert_eq!(Table::lent(&mut odd).clear(), Err(Refusal::Argument));

@@ -6,7 +6,7 @@ use lib.ListN.{length}
 use Rattle.chain.specs.Chain.{stepRefusal, Walk, walk}
 use Rattle.chain.proofs.Steps.{reached, stopped}
 use Rattle.chain.proofs.Walks.{walk-ended, walk-stop, walk-next}
-use Rattle.chain.proofs.Checks.{nothing-behind, wrong-behind, field-behind}
+use Rattle.chain.proofs.Checks.{end-after, wrong-after, field-after}
 use borrow.Author.Needs.{needs}
 use Rattle.chain.proofs.after_mac.Statement.{statement}
 use Rattle.chain.proofs.after_mac.Tie as tie
@@ -18,7 +18,7 @@ abbrev μ-loop : tie.MeasureT-loop
 μ-loop rest start cursor₀ cursor = length rest - cursor .at
 
 returns : tie.Need-returns Inv-loop μ-loop
-returns c = nothing-behind _ _ (c .if1 .taken)
+returns c = end-after _ _ (c .if1 .taken)
 
 loop-holds : tie.Need-loop-holds Inv-loop μ-loop
 loop-holds c = refl
@@ -38,7 +38,7 @@ returns-2 c =
     let t = at-step .step in
     let o = stopped _ (c .before .match .keys2) in
     c .refusal .ensures
-    ∙ wrong-behind _ _ (at-step .before .if2 .taken) _ (t .ensures) o _ _ (walk-stop _ _ _ (t .ensures) o ∙ at-step .before .before .before .loop .inv)
+    ∙ wrong-after _ _ (at-step .before .if2 .taken) _ (t .ensures) o _ _ (walk-stop _ _ _ (t .ensures) o ∙ at-step .before .before .before .loop .inv)
 
 loop-less : tie.Need-loop-less Inv-loop μ-loop
 loop-less c =
@@ -56,7 +56,7 @@ returns-3 : tie.Need-returns-3 Inv-loop μ-loop
 returns-3 c =
     let at-loop = c .before .before in
     let end = ap (λ (w : Walk). stepRefusal (w .stop)) (walk-ended _ _ (c .if2 .left)) in
-    field-behind _ _ (at-loop .before .if1 .left) (sym (at-loop .loop .inv) ∙ end)
+    field-after _ _ (at-loop .before .if1 .left) (sym (at-loop .loop .inv) ∙ end)
 
 pub after-mac-spec : {M : Type 1} → statement M
 after-mac-spec =
