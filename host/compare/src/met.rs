@@ -85,8 +85,8 @@ pub fn interleaved(datagram: &[u8]) -> &'static str {
     }
 }
 
-/// What a datagram with a MAC led to: taken with the MAC as its last field, refused with 13 for
-/// one MAC or for more, or with 4 or 5 for a field that comes after the MAC and a sound one.
+/// What a datagram with a MAC led to: taken with the MAC as its last field, refused with 13
+/// where another field or a MAC is last, or with 4 or 5 for a field after a MAC and a sound one.
 fn mac_outcome(call: &Call, refusal: u8) -> Option<String> {
     let (what, datagram) = match call {
         Call::Sound { mode, datagram } => (format!("sound {mode}"), datagram),
