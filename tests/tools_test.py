@@ -1,7 +1,7 @@
 #!/usr/bin/env python3
 """Shows that tools/contracts.py and tools/claims.py refuse what they are for: each gets small wrong texts, and right ones.
 
-Without it a check that refuses nothing any more would go unnoticed.
+Without it a check that refuses nothing any more would go unnoticed. Runs the tests of the other tools too, each a file of its own.
 """
 import contextlib
 import io
@@ -13,6 +13,7 @@ sys.dont_write_bytecode = True      # no generated folder beside the sources
 sys.path.insert(0, str(pathlib.Path(__file__).resolve().parent.parent / "tools"))
 import claims       # noqa: E402
 import contracts    # noqa: E402
+import trace_test   # noqa: E402
 
 RULES = {"crates/own/specs/Rules.antt": {"cleared", "sizeOf", "twice"}, "crates/below/specs/Base.antt": {"base"}}
 USES = """
@@ -230,7 +231,9 @@ class Claims(unittest.TestCase):
 def main():
     """Says how many tests passed: none is no success either."""
     output = io.StringIO()
-    result = unittest.TextTestRunner(stream=output).run(unittest.defaultTestLoader.loadTestsFromModule(sys.modules[__name__]))
+    load = unittest.defaultTestLoader.loadTestsFromModule
+    tests = unittest.TestSuite(load(module) for module in (sys.modules[__name__], trace_test))
+    result = unittest.TextTestRunner(stream=output).run(tests)
     if not result.wasSuccessful() or result.skipped or not result.testsRun:
         print(output.getvalue())
         return 1
