@@ -21,8 +21,8 @@ NUMBER = r"([A-VX-Z]|W\d\d\d)-(\d+)"
 HEADING = re.compile(r"## (\w+): .")
 # A number that is cited. UTF-8, a change request such as W-205 and a difference such as T2-T1 are none.
 CITED = re.compile(rf"(?<![\w-]){NUMBER}(?![\w-])")
-# Folders that hold nothing of ours, or what a tool made.
-PASSED_OVER = {".git", "target", "__pycache__"}
+# Folders that hold nothing of ours, or what a tool made; and the tests of this check, which cite what is not there.
+PASSED_OVER = {".git", "target", "__pycache__", "trace_test.py"}
 
 # How a line that defines a name begins, by the file's ending. A case file has no names: a comment there begins with the text.
 DEFINED = {
@@ -137,7 +137,7 @@ def texts():
     """Every text of the repository but for the two pages."""
     for folder, inner, files in os.walk(ROOT):
         inner[:] = sorted(name for name in inner if name not in PASSED_OVER)
-        for name in sorted(files):
+        for name in sorted(set(files) - PASSED_OVER):
             path = os.path.relpath(os.path.join(folder, name), ROOT)
             if path not in (RULES, PAGE):
                 yield path, read(path)
