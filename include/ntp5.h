@@ -2,6 +2,14 @@
  * An NTPv5 time unit (draft-mlichvar-ntp-ntpv5-07) for a main loop in C: a client of up to sixteen servers, a responder with
  * interleaved mode, and reference-ID filters that show when a controller follows its own clock. Link with libntp5.a.
  *
+ * TARGET: x86-64 Linux, the one target of the Rattle kit's compiler. The proofs are of the source and hold on any processor;
+ * an archive for another one needs the kit's back end for it. What the linker and the caller of the archive meet:
+ *   - it needs memcpy, memmove and memset and nothing else; it is position-independent and has no data that are written;
+ *   - it uses the SSE registers and the red zone below the stack pointer: call it neither from an interrupt handler that
+ *     does not save the SSE registers nor on a stack whose red zone something else writes to, as a kernel's;
+ *   - it has no unwind tables: a debugger or an exception does not get past a call; none of its calls throws or longjmps;
+ *   - a call takes at most 12 KiB of stack (docs/PERFORMANCE.md has each call's).
+ *
  * The library keeps nothing between calls, allocates nothing and calls nothing of the caller's. All state lies in buffers
  * that the caller owns and lends for the time of one call: a pointer and the number of octets behind it.
  *
@@ -15,6 +23,7 @@
  * every call (docs/CLAIMS.md, "Refusals"), as is that the number is one of those that its comment below names. Where
  * several apply, the first in this order is given:
  *   6, 7, 1, 2, 3, then 4 and 5 field by field, 13, 9, 10, 8, 11, 12.
+ * docs/RULES.md has every rule of the calls, numbered.
  *
  * COOKIES ARE NEVER USED TWICE. The caller draws every client cookie and every server cookie at random and never gives one
  * a second time. The library refuses only the repeats that it can see, and with an older cookie given again a late
@@ -75,7 +84,7 @@ enum {
 enum {
     NTP5_VERDICT_INCOMPLETE = 1, /* some filter octets were not received since opening: nothing can be said */
     NTP5_VERDICT_LOOP = 2,       /* all ten positions of the ID are set: the server follows that ID */
-    NTP5_VERDICT_CLEAR = 3
+    NTP5_VERDICT_CLEAR = 3       /* not all are set, as of the last pass: see ntp5_loop_verdict on its age */
 };
 
 /* Modes, associations and sizes in octets. */
@@ -193,6 +202,15 @@ ntp5_received ntp5_receive(uint8_t *table, size_t table_len, uint8_t association
 /*
  * Whether the association's server follows, itself or through others, the controller with this ID of 15 octets: ask it with
  * the own ID. A filter can say loop for an ID that was never added, but never clear for one that was. Only reads.
+ *
+ * A VERDICT HAS AN AGE. A filter comes in chunks of c octets, 512/c of them in a pass, and once complete it stays complete:
+ * each chunk is as it was served when it was last taken. A server that begins to follow this ID is still "clear" until the
+ * chunks with the ID's positions have been asked again, up to 512/c accepted responses later, and one that no longer does is
+ * still "loop" as long. So:
+ *   - after a change of sources, here or there, a clear counts once 512/c chunks that were polled after it were taken;
+ *   - c is chosen at opening by how fast a loop must be seen: 512/c polls of 84 + c octets, from 32 polls of 100 octets with
+ *     c = 16 to one of 596 with c = 512;
+ *   - the verdict is asked again after every taken chunk, not once.
  * Refuses: 6 (also an ID of another size), 7 if not open.
  */
 ntp5_verdict ntp5_loop_verdict(const uint8_t *table, size_t table_len, uint8_t association, const uint8_t *id,
@@ -202,6 +220,9 @@ ntp5_verdict ntp5_loop_verdict(const uint8_t *table, size_t table_len, uint8_t a
  * Writes the filter that this controller serves to its own clients, 512 octets: the union of the filters of the associations
  * whose bit 2^association is set in `selected` (those that the clock follows) and the own ID. With nothing selected it is the
  * own ID alone. Only `out` changes; the answer's length is 512.
+ * What is written has the age of the selected filters (see ntp5_loop_verdict), and the clients that are served from it see no
+ * more than it holds: publish again after every taken chunk of a selected association and at every change of the selection.
+ * In a loop through several controllers each one adds up to a pass of its own, and the time until it publishes again.
  * Refuses: 6 (also an ID of another size), 7 if a selected one is not open or its filter is not complete, 11.
  */
 ntp5_written ntp5_publish(const uint8_t *table, size_t table_len, uint16_t selected, const uint8_t *id, size_t id_len,
