@@ -4,7 +4,7 @@ use mathlib.Core.List.{List}
 use Prim.Native.Nat.{ℕ}
 use lib.Count.{ones}
 use Rattle.octets.specs.Number.{Octets}
-use Rattle.filter.specs.Filter.{weight}
+use Rattle.filter_rules.specs.Filter.{weight}
 use Rattle.filter_words.specs.Words.{lowFirst, wordsOf}
 use Rattle.filter_weight.specs.Weighing.{onesOf}
 

@@ -12,7 +12,7 @@ use lib.Dec.{lit<}
 use lib.ListN.{getD}
 use lib.Pow.{pow-add, shr-shr, mod-mod-pow, field, high, low}
 use Rattle.octets.specs.Number.{Octets}
-use Rattle.filter.proofs.Adding.{digit}
+use Rattle.filter_rules.proofs.Adding.{digit}
 use Rattle.filter_words.specs.Words.{lowFirst}
 
 pub lowFirst-lt : (l : List ℕ) → Octets l → (i n : ℕ) → lowFirst l i n < 2 ^ (8 * n)

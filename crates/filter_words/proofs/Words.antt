@@ -12,7 +12,7 @@ use borrow.Author.Tests.{le-leb}
 use lib.Dec.{eqb}
 use lib.ListN.{length, getD}
 use Rattle.octets.specs.Number.{Octets}
-use Rattle.filter.proofs.Adding.{digit}
+use Rattle.filter_rules.proofs.Adding.{digit}
 use Rattle.filter_words.specs.Words.{Words, lowFirst, wordAt, wordsFrom, wordsOf}
 use Rattle.filter_words.specs.Claim.{SixtyFourWords, WordBound, EightOctets, PositionInWord}
 use Rattle.filter_words.proofs.Spelling.{lowFirst-lt, bit-of}

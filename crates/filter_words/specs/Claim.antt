@@ -4,7 +4,7 @@ use mathlib.Core.List.{List}
 use Prim.Native.Nat.{ℕ, _*_, _<_}
 use lib.ListN.{length, getD}
 use Rattle.octets.specs.Number.{Octets}
-use Rattle.filter.specs.Filter.{isSet}
+use Rattle.filter_rules.specs.Filter.{isSet}
 use Rattle.filter_words.specs.Words.{Words, lowFirst, wordsOf, isSetIn}
 
 -- there are 64 of them

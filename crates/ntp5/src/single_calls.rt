@@ -8,7 +8,7 @@ use c_structs::headers::Read;
 ghost use mathlib.Core.Path.{_≡_};
 ghost use Rattle.header.specs.Header.{refusal, reading, headerOf, written};
 ghost use Rattle.chain.specs.Chain.{soundRefusal};
-ghost use Rattle.filter.specs.Calls.{addId, unite};
+ghost use Rattle.filter_rules.specs.Calls.{addId, unite};
 ghost use Rattle.filter_weight.specs.Weighing.{weighing, numbers};
 ghost use Rattle.measure.specs.Measure.{measurement};
 ghost use Rattle.c_structs.specs.Numbers.{weightNumbers, measurementNumbers};

@@ -9,7 +9,7 @@ use Rattle.header.specs.Header.{headerOf, refusal, reading, written}
 use Rattle.octets.specs.Among.{among}
 use Rattle.header.proofs.Refusals.{header-number}
 use Rattle.chain.proofs.Refusals.{sound-number}
-use Rattle.filter.specs.Calls.{isFilter, isId}
+use Rattle.filter_rules.specs.Calls.{isFilter, isId}
 use Rattle.filter_weight.specs.Weighing.{numbers}
 use Rattle.filter_weight.specs.declared.Weighing.{Weighing}
 use Rattle.single_rules.specs.Single.{Call, headerRead, headerWrite, sound, filterAdd, filterUnion, filterWeight, lent, Answer, plainAnswer, readAnswer, outputAnswer, weightAnswer}

@@ -8,7 +8,7 @@ use Rattle.header.specs.declared.Header.{Header}
 use Rattle.header.specs.declared.Reading.{Reading}
 use Rattle.header.specs.declared.Reading.the-variants.{Fields, Refused}
 use Rattle.chain.specs.Chain.{soundRefusal}
-use Rattle.filter.specs.Calls.{addId, unite}
+use Rattle.filter_rules.specs.Calls.{addId, unite}
 use Rattle.filter_weight.specs.Weighing.{weighing, numbers}
 
 pub data Call : Type 0 where

@@ -4,8 +4,8 @@ use Rattle.octets.specs.Number.{num, octets}
 use Rattle.octets.specs.Piece.{spelled}
 use Rattle.header.specs.Header.{headerOctets, refusal}
 use Rattle.chain.specs.Chain.{allZero, stepAt, walkFor, walk, chainRefusal, soundRefusal}
-use Rattle.filter.specs.Positions.{positions}
-use Rattle.filter.specs.Filter.{addAll, countBelow}
+use Rattle.filter_rules.specs.Positions.{positions}
+use Rattle.filter_rules.specs.Filter.{addAll, countBelow}
 use Rattle.measure.specs.Measure.{difference, measurement}
 use Rattle.worked.specs.Cases.{bare, request, tableFor, same, allSame, agree, Worked, halfEraTable, HalfEraWorked}
 

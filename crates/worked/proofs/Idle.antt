@@ -8,9 +8,9 @@ use borrow.Author.Tests.{eqb-true}
 use lib.Dec.{eqb}
 use lib.IntN.{ℤ, pos, negsuc}
 use lib.ListN.{length, getD, replicate}
-use Rattle.filter.specs.Positions.{positions}
-use Rattle.filter.specs.Filter.{freshFilter, ofId, weight}
-use Rattle.filter.proofs.Adding.{length-addAll, length-fresh}
+use Rattle.filter_rules.specs.Positions.{positions}
+use Rattle.filter_rules.specs.Filter.{freshFilter, ofId, weight}
+use Rattle.filter_rules.proofs.Adding.{length-addAll, length-fresh}
 use Rattle.measure.specs.Measure.{measurement}
 use Rattle.worked.specs.Cases.{Row, M, MeasurementFunction, WeightFunction, tableFor, same, allSame, valuesSaid, agree, WorkedFor}
 use Rattle.worked.specs.Idle.{fixedAnswer, OneOffset, OneDelay, fixedWeight, oneMore, WeightFor, IdleRejected}

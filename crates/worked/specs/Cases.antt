@@ -12,7 +12,7 @@ use Rattle.header.specs.Header.{headerOctets}
 use Rattle.header.specs.declared.Header.{Header}
 use Rattle.chain.specs.Chain.{soundRefusal}
 use Rattle.field_role.specs.Role.{goodRequest}
-use Rattle.filter.specs.Filter.{ofId, weight}
+use Rattle.filter_rules.specs.Filter.{ofId, weight}
 use Rattle.measure.specs.Measure.{measurement}
 use Rattle.measure.specs.declared.Measurement.{Measurement}
 

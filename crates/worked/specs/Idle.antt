@@ -4,7 +4,7 @@ use mathlib.Core.List.{List}
 use Prim.Native.Nat.{ℕ, _+_}
 use lib.IntN.{ℤ}
 use lib.ListN.{length}
-use Rattle.filter.specs.Filter.{weight}
+use Rattle.filter_rules.specs.Filter.{weight}
 use Rattle.measure.specs.declared.Measurement.{Measurement}
 use Rattle.worked.specs.Cases.{MeasurementFunction, WeightFunction, WorkedFor}
 

@@ -3,8 +3,8 @@ use mathlib.Core.Bool.{Bool, cond}
 use mathlib.Core.List.{List, [], _∷_}
 use Prim.Native.Nat.{ℕ, zero, suc, _/_, _%_, _^_}
 use lib.Dec.{eqb}
-use Rattle.filter.specs.Positions.{positions}
-use Rattle.filter.specs.Filter.{freshFilter, addAll, union}
+use Rattle.filter_rules.specs.Positions.{positions}
+use Rattle.filter_rules.specs.Filter.{freshFilter, addAll, union}
 
 -- bit 2^a of a number
 abbrev pub bit : ℕ → ℕ → Bool

@@ -6,8 +6,8 @@ use mathlib.Core.Logic.{_≢_}
 use Prim.Native.Nat.{ℕ, _+_, _*_, _/_, _%_, _<_}
 use lib.ListN.{length, getD}
 use Rattle.octets.specs.Number.{Octets}
-use Rattle.filter.specs.Positions.{positions}
-use Rattle.filter.specs.Filter.{freshFilter, isSet, addAll, containsAll, union}
+use Rattle.filter_rules.specs.Positions.{positions}
+use Rattle.filter_rules.specs.Filter.{freshFilter, isSet, addAll, containsAll, union}
 
 -- ten positions, each from 0 to 4095
 abbrev pub TenPositions : Type 0

@@ -7,9 +7,9 @@ use mathlib.Core.List.{List}
 use Prim.Native.Nat.{ℕ, zero, suc, _+_, _≤_, zero-le, min, max}
 use native.Mathlib.Omega.{arith}
 use lib.ListN.{length}
-use Rattle.filter.specs.Filter.{isSet, union, countBelow, weight}
-use Rattle.filter.specs.Laws.{UnionWeight}
-use Rattle.filter.proofs.Uniting.{isSet-union}
+use Rattle.filter_rules.specs.Filter.{isSet, union, countBelow, weight}
+use Rattle.filter_rules.specs.Laws.{UnionWeight}
+use Rattle.filter_rules.proofs.Uniting.{isSet-union}
 
 pub count-le : (f : List ℕ) (n : ℕ) → countBelow f n ≤ n
 unfolding countBelow

@@ -10,12 +10,12 @@ use native.Mathlib.Omega.{arith}
 use lib.ListN.{length}
 use Rattle.order.specs.Order.{Every, Permutation, nil, insert}
 use Rattle.order.proofs.Permutations.{every-middle}
-use Rattle.filter.specs.Positions.{positions}
-use Rattle.filter.specs.Filter.{freshFilter, isSet, addAll, union}
-use Rattle.filter.specs.Publishing.{bit, selectedFrom, joined}
-use Rattle.filter.specs.Laws.{PublishingOrder}
-use Rattle.filter.proofs.Adding.{length-fresh}
-use Rattle.filter.proofs.Uniting.{union-order, union-grouping, length-union, isSet-union}
+use Rattle.filter_rules.specs.Positions.{positions}
+use Rattle.filter_rules.specs.Filter.{freshFilter, isSet, addAll, union}
+use Rattle.filter_rules.specs.Publishing.{bit, selectedFrom, joined}
+use Rattle.filter_rules.specs.Laws.{PublishingOrder}
+use Rattle.filter_rules.proofs.Adding.{length-fresh}
+use Rattle.filter_rules.proofs.Uniting.{union-order, union-grouping, length-union, isSet-union}
 
 -- ---- any order
 

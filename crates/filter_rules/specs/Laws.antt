@@ -9,9 +9,9 @@ use mathlib.Core.List.{List}
 use Prim.Native.Nat.{ℕ, _+_, _<_, _≤_, min, max}
 use lib.ListN.{length}
 use Rattle.order.specs.Order.{Permutation}
-use Rattle.filter.specs.Positions.{positions}
-use Rattle.filter.specs.Filter.{freshFilter, addAll, union, weight}
-use Rattle.filter.specs.Publishing.{selectedAssociations, joined, publishedFilter}
+use Rattle.filter_rules.specs.Positions.{positions}
+use Rattle.filter_rules.specs.Filter.{freshFilter, addAll, union, weight}
+use Rattle.filter_rules.specs.Publishing.{selectedAssociations, joined, publishedFilter}
 
 -- Union does not care about order,
 abbrev pub UnionOrder : Type 0
