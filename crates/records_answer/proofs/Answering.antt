@@ -9,7 +9,7 @@ use Rattle.records.specs.Records.{Fit}
 use Rattle.records.proofs.Encoding.{size-is, row-is, wrong-is}
 use Rattle.responder_rules.specs.Answer.{Given, asking, rowAfter, firstRefusal, shortOutput, outputAfter, answerRefusal, Outcome as OctetsOutcome, answerOf}
 use Rattle.responder_rules.proofs.Accepting.{by-refusal, answer-written, answer-refused}
-use Rattle.records_answer.specs.Step.{Stepped}
+use Rattle.answer_plan.specs.Step.{Stepped}
 use Rattle.records_answer.specs.Answer.{stepOf, Outcome, answerRecords}
 use Rattle.records_answer.specs.Same.{Returned, answered}
 use Rattle.records_answer.proofs.Ways.{Way, goes, stops, done, stepRefusal, step-is, way, answer-done, answer-stopped}

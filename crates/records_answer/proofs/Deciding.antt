@@ -9,10 +9,10 @@ use Rattle.store_rules.specs.Row.{Record, usedOf}
 use Rattle.responder_rules.specs.Answer.{Given, asking, savedTime, answerOctets, firstRefusal, shortOutput}
 use Rattle.responder_rules.specs.declared.Answered.{Answered}
 use Rattle.responder_rules.proofs.Accepting.{first-pass}
-use Rattle.records_answer.specs.Step.{Stepped, stepped}
+use Rattle.answer_plan.specs.Step.{Stepped, stepped}
 use Rattle.records_answer.specs.Answer.{checkedRequest, stepOf, Outcome, outcome, answerRecords}
 use Rattle.records_answer.specs.Sent.{Ready, sentOctets, answerSent}
-use Rattle.records_answer.specs.declared.AnswerStep.{AnswerStep}
+use Rattle.answer_plan.specs.declared.AnswerStep.{AnswerStep}
 use Rattle.records_answer.proofs.Ways.{Way, goes, stops, done, way, answer-done, answer-stopped}
 
 -- the same with other records

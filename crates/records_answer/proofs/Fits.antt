@@ -14,7 +14,7 @@ use Rattle.header.specs.declared.Reading.the-variants.{Fields, Refused}
 use Rattle.store_rules.specs.Row.{Record, held, withTime, without, unused, usedOf}
 use Rattle.records.specs.Records.{unusedRecord, Fit, wrongCount, wrongRecords, clearRecords, reportRefusal, reportRecords, leaveRecords, withCookieAtFree, joinRecords}
 use Rattle.responder_rules.specs.Answer.{Given, wantsInterleaved, savedTime, rowAfter, wrongFresh, shortOutput, refusedAnswer}
-use Rattle.records_answer.specs.Step.{Stepped, answerStep}
+use Rattle.answer_plan.specs.Step.{Stepped, answerStep}
 use Rattle.records_answer.specs.Answer.{Outcome, checkedRequest, stepOf, answerRecords}
 use Rattle.records_answer.specs.Same.{Call, clear, wrong, find, time, report, leave, join, answer, callOnRecords, Typed}
 

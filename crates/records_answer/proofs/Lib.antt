@@ -3,8 +3,6 @@ pub mod Fits
 pub mod Ways
 pub mod Answering
 pub mod Runs
-pub mod RowInRecords
-pub mod Stepping
 pub mod Sending
 pub mod Values
 pub mod Deciding

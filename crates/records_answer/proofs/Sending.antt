@@ -20,7 +20,7 @@ use Rattle.responder.proofs.Writing.{header-put, answer-put}
 use Rattle.responder.proofs.Deciding.{lent-size, lent-back}
 use Rattle.records_answer.specs.Answer.{outcome}
 use Rattle.records_answer.specs.Sent.{Ready, sentOctets, answerSent}
-use Rattle.records_answer.specs.declared.AnswerStep.{AnswerStep}
+use Rattle.answer_plan.specs.declared.AnswerStep.{AnswerStep}
 
 -- ---- checking
 

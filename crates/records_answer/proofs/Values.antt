@@ -18,12 +18,12 @@ use Rattle.responder_rules.proofs.Server as Sv
 use Rattle.responder_rules.proofs.Server.Laws as Sv′
 use Rattle.responder_rules.proofs.Answered as An
 use Rattle.responder_rules.proofs.Answered.Laws as An′
-use Rattle.records_answer.specs.declared.AnswerStep.{AnswerStep}
-use Rattle.records_answer.specs.declared.value.Plan.{Plan}
-use Rattle.records_answer.proofs.AnswerStep as St
-use Rattle.records_answer.proofs.AnswerStep.Laws as St′
-use Rattle.records_answer.proofs.value.Plan as P
-use Rattle.records_answer.proofs.value.Plan.Laws as P′
+use Rattle.answer_plan.specs.declared.AnswerStep.{AnswerStep}
+use Rattle.answer_plan.specs.declared.Plan.{Plan}
+use Rattle.answer_plan.proofs.AnswerStep as St
+use Rattle.answer_plan.proofs.AnswerStep.Laws as St′
+use Rattle.answer_plan.proofs.Plan as P
+use Rattle.answer_plan.proofs.Plan.Laws as P′
 
 abbrev pub IsReading : Reading → Type 0
 IsReading r = Is Rd.the-row r (Rd′.lowered r ∷ [])

@@ -12,7 +12,7 @@ use Rattle.store_rules.specs.Row.{Record, usedOf}
 use Rattle.records.specs.Records.{wrongRecords}
 use Rattle.responder_rules.specs.Answer.{Given, asking, savedTime, rowAfter, firstRefusal, wrongFresh, shortOutput, refusedAnswer, outputAfter}
 use Rattle.responder_rules.proofs.Accepting.{none-refused}
-use Rattle.records_answer.specs.Step.{Stepped, rowInRecords, refusedStep, answerStep}
+use Rattle.answer_plan.specs.Step.{Stepped, rowInRecords, refusedStep, answerStep}
 use Rattle.records_answer.specs.Answer.{stepOf, answerRecords}
 
 module _ (g : Given) (rs : List Record) where

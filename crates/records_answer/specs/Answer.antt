@@ -9,7 +9,7 @@ use Rattle.header.specs.declared.Reading.{Reading}
 use Rattle.store_rules.specs.Row.{Record, usedOf}
 use Rattle.responder_rules.specs.Answer.{Given, asking, outputAfter, firstRefusal, shortOutput, numbersOf}
 use Rattle.responder_rules.specs.declared.Answered.{Answered}
-use Rattle.records_answer.specs.Step.{Stepped, answerStep}
+use Rattle.answer_plan.specs.Step.{Stepped, answerStep}
 
 -- the header of the request, or what it or the arguments are refused by
 abbrev pub checkedRequest : Given → Reading

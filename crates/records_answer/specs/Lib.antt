@@ -1,6 +1,4 @@
 -- The answer of document 01 with the saved timestamps as a slice of records.
-pub mod Step
-pub mod Value
 pub mod Answer
 pub mod Sent
 pub mod Same

@@ -12,7 +12,7 @@ use Rattle.chain.specs.Content.{chainOctets}
 use Rattle.responder_rules.specs.Answer.{Given, asking, answerHeader, sentFields, shortOutput}
 use Rattle.responder_rules.specs.Claim.{Accepted}
 use Rattle.records_answer.specs.Answer.{Outcome}
-use Rattle.records_answer.specs.declared.AnswerStep.{AnswerStep}
+use Rattle.answer_plan.specs.declared.AnswerStep.{AnswerStep}
 
 -- what holds where the step is not refused
 pub record Ready (checked : Reading) (g : Given) (out : List ℕ) : Type 0 where

@@ -1,5 +1,5 @@
 // The parts of an answer that do not look at the records.
-use crate::AnswerStep;
+use answer_plan::AnswerStep;
 use header::Reading;
 use header::ServerCookie;
 use responder_rules::Answered;

@@ -1,7 +1,7 @@
 // The answer to a request, with the saved timestamps of interleaved mode in a lent slice of records.
 mod datagram;
-mod value;
 
+use answer_plan::AnswerStep;
 use header::Reading;
 use header::ServerCookie;
 use records::Record;
@@ -10,14 +10,8 @@ pub use responder_rules::Server;
 ghost use mathlib.Core.Path.{_≡_};
 ghost use Rattle.responder_rules.specs.Answer.{given};
 ghost use Rattle.records.specs.Records.{recordsIn};
-ghost use Rattle.records_answer.specs.Step.{stepped, answerStep};
+ghost use Rattle.answer_plan.specs.Step.{stepped, answerStep};
 ghost use Rattle.records_answer.specs.Answer.{outcome, answerRecords};
-
-// What the step of an answer on the records returns: its refusal, and the saved time that is sent, 0 in a basic answer.
-pub struct AnswerStep {
-    pub refusal: u8,
-    pub saved: u64,
-}
 
 // The one step of an answer on the records: it decides all the refusals that are left, and where there is none, the record whose time is sent leaves and
 // the fresh cookie joins. `request` is its header or what it is refused by; `short`: the output is shorter than the answer.
@@ -31,10 +25,10 @@ pub fn answer_step(
 {
     let is_wrong = records::wrong(records);
     let fresh_at = records::find(records, 0, fresh_cookie);
-    let at = records::find(records, 0, value::asked_cookie(request));
+    let at = records::find(records, 0, answer_plan::asked_cookie(request));
     let time = records::time(records, at);
     let n = records.len();
-    let plan = value::plan_of(
+    let plan = answer_plan::plan_of(
         is_wrong,
         request,
         short,

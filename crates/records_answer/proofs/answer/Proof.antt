@@ -55,14 +55,14 @@ use Rattle.responder_rules.proofs.Server as Sv
 use Rattle.responder_rules.proofs.Server.Laws as Sv′
 use Rattle.responder_rules.proofs.Answered as An
 use Rattle.responder_rules.proofs.Answered.Laws as An′
-use Rattle.records_answer.specs.Step.{stepped}
+use Rattle.answer_plan.specs.Step.{stepped}
 use Rattle.records_answer.specs.Answer.{checkedRequest, stepOf, outcome, answerRecords}
 use Rattle.records_answer.specs.Sent.{Ready, answerSent}
-use Rattle.records_answer.specs.declared.AnswerStep.{AnswerStep}
+use Rattle.answer_plan.specs.declared.AnswerStep.{AnswerStep}
 use Rattle.records_answer.proofs.Deciding.{ready, answered}
 use Rattle.records_answer.proofs.Values.{IsReading, IsServer, IsAnswered, IsAnswerStep, leap-fits}
-use Rattle.records_answer.proofs.AnswerStep as St
-use Rattle.records_answer.proofs.AnswerStep.Laws as St′
+use Rattle.answer_plan.proofs.AnswerStep as St
+use Rattle.answer_plan.proofs.AnswerStep.Laws as St′
 use Rattle.records_answer.proofs.datagram.checked as checked
 use Rattle.records_answer.proofs.datagram.checked.Symbol as checked-def
 use Rattle.records_answer.proofs.datagram.checked.Symbol.{name as #checked}

@@ -75,24 +75,24 @@ use Rattle.records.proofs.join as join
 use Rattle.records.proofs.join.Symbol as join-def
 use Rattle.records.proofs.join.Symbol.{name as #join}
 use Rattle.records.proofs.join.Met as join-thm
-use Rattle.records_answer.specs.Step.{stepped, answerStep}
-use Rattle.records_answer.specs.Value.{requestCookie, planOf}
-use Rattle.records_answer.specs.declared.AnswerStep.{AnswerStep}
-use Rattle.records_answer.specs.declared.value.Plan.{Plan}
-use Rattle.records_answer.proofs.Stepping.{stepBy, planOn, plan-steps}
+use Rattle.answer_plan.specs.Step.{stepped, answerStep}
+use Rattle.answer_plan.specs.Value.{requestCookie, planOf}
+use Rattle.answer_plan.specs.declared.AnswerStep.{AnswerStep}
+use Rattle.answer_plan.specs.declared.Plan.{Plan}
+use Rattle.answer_plan.proofs.Stepping.{stepBy, planOn, plan-steps}
 use Rattle.records_answer.proofs.Values.{IsReading, IsAnswerStep, IsPlan, is-step, leaving-fits, step-typed}
-use Rattle.records_answer.proofs.AnswerStep as St
-use Rattle.records_answer.proofs.AnswerStep.Laws as St′
-use Rattle.records_answer.proofs.value.Plan as P
-use Rattle.records_answer.proofs.value.Plan.Laws as P′
-use Rattle.records_answer.proofs.value.asked_cookie as asked-cookie
-use Rattle.records_answer.proofs.value.asked_cookie.Symbol as asked-cookie-def
-use Rattle.records_answer.proofs.value.asked_cookie.Symbol.{name as #asked-cookie}
-use Rattle.records_answer.proofs.value.asked_cookie.Met as asked-cookie-thm
-use Rattle.records_answer.proofs.value.plan_of as plan-of
-use Rattle.records_answer.proofs.value.plan_of.Symbol as plan-of-def
-use Rattle.records_answer.proofs.value.plan_of.Symbol.{name as #plan-of}
-use Rattle.records_answer.proofs.value.plan_of.Met as plan-of-thm
+use Rattle.answer_plan.proofs.AnswerStep as St
+use Rattle.answer_plan.proofs.AnswerStep.Laws as St′
+use Rattle.answer_plan.proofs.Plan as P
+use Rattle.answer_plan.proofs.Plan.Laws as P′
+use Rattle.answer_plan.proofs.asked_cookie as asked-cookie
+use Rattle.answer_plan.proofs.asked_cookie.Symbol as asked-cookie-def
+use Rattle.answer_plan.proofs.asked_cookie.Symbol.{name as #asked-cookie}
+use Rattle.answer_plan.proofs.asked_cookie.Met as asked-cookie-thm
+use Rattle.answer_plan.proofs.plan_of as plan-of
+use Rattle.answer_plan.proofs.plan_of.Symbol as plan-of-def
+use Rattle.answer_plan.proofs.plan_of.Symbol.{name as #plan-of}
+use Rattle.answer_plan.proofs.plan_of.Met as plan-of-thm
 use Rattle.records_answer.proofs.answer_step.Key.{name as #answer-step}
 use Rattle.records_answer.proofs.answer_step as answer-step
 use Rattle.records_answer.proofs.answer_step.Statement as stated
@@ -309,8 +309,8 @@ answer-step-spec 𝓤 H 𝓜 𝓖 𝓡 =
       knows-wrong = cited 𝓤 H (Judges 𝓤 H (𝓖 .A) (𝓜 .mem) (𝓡 .run)) 𝓜 𝓡 code.env #wrong wrong-def.routine code.calls-records·wrong (wrong-thm.met 𝓤 H 𝓜 𝓖 𝓡);
       knows-find = cited 𝓤 H (Finds 𝓤 H (𝓖 .A) (𝓜 .mem) (𝓡 .run)) 𝓜 𝓡 code.env #find find-def.routine code.calls-records·find (find-thm.met 𝓤 H 𝓜 𝓖 𝓡);
       knows-time = cited 𝓤 H (Times 𝓤 H (𝓖 .A) (𝓜 .mem) (𝓡 .run)) 𝓜 𝓡 code.env #time time-def.routine code.calls-records·time (time-thm.met 𝓤 H 𝓜 𝓖 𝓡);
-      knows-cookie = cited 𝓤 H (Cookies 𝓤 H (𝓖 .A) (𝓜 .mem) (𝓡 .run)) 𝓜 𝓡 code.env #asked-cookie asked-cookie-def.routine code.calls-records-answer·value·asked-cookie (asked-cookie-thm.met 𝓤 H 𝓜 𝓖 𝓡);
-      knows-plan = cited 𝓤 H (Plans 𝓤 H (𝓖 .A) (𝓜 .mem) (𝓡 .run)) 𝓜 𝓡 code.env #plan-of plan-of-def.routine code.calls-records-answer·value·plan-of (plan-of-thm.met 𝓤 H 𝓜 𝓖 𝓡);
+      knows-cookie = cited 𝓤 H (Cookies 𝓤 H (𝓖 .A) (𝓜 .mem) (𝓡 .run)) 𝓜 𝓡 code.env #asked-cookie asked-cookie-def.routine code.calls-answer-plan·asked-cookie (asked-cookie-thm.met 𝓤 H 𝓜 𝓖 𝓡);
+      knows-plan = cited 𝓤 H (Plans 𝓤 H (𝓖 .A) (𝓜 .mem) (𝓡 .run)) 𝓜 𝓡 code.env #plan-of plan-of-def.routine code.calls-answer-plan·plan-of (plan-of-thm.met 𝓤 H 𝓜 𝓖 𝓡);
       knows-leave = cited 𝓤 H (Leaves 𝓤 H (𝓖 .A) (𝓜 .mem) (𝓡 .run)) 𝓜 𝓡 code.env #leave leave-def.routine code.calls-records·leave (leave-thm.met 𝓤 H 𝓜 𝓖 𝓡);
       knows-join = cited 𝓤 H (Joins 𝓤 H (𝓖 .A) (𝓜 .mem) (𝓡 .run)) 𝓜 𝓡 code.env #join join-def.routine code.calls-records·join (join-thm.met 𝓤 H 𝓜 𝓖 𝓡);
     }))

@@ -1,7 +1,7 @@
 -- `asked_cookie` meets its contract: each case of the request is one of the definition's. Assumes nothing.
 use borrow.Author.Needs.{needs}
-use Rattle.records_answer.proofs.value.asked_cookie.Statement.{statement}
-use Rattle.records_answer.proofs.value.asked_cookie.Tie as tie
+use Rattle.answer_plan.proofs.asked_cookie.Statement.{statement}
+use Rattle.answer_plan.proofs.asked_cookie.Tie as tie
 
 enum-known-request : tie.Need-enum-known-request
 enum-known-request c = search needs

@@ -20,10 +20,10 @@ use Rattle.records.specs.Records.{timeAt, wrongRecords, leaveRecords, joinRecor
 use Rattle.records.proofs.Moves.{leave-past}
 use Rattle.records.proofs.Sounds.{Sound, held-row, time-row, time-at, right-sound}
 use Rattle.responder_rules.specs.Answer.{wantsInterleaved, savedTime, rowAfter, wrongFresh, refusedAnswer}
-use Rattle.records_answer.specs.Step.{Stepped, stepped, rowInRecords, refusedStep, answerStep}
-use Rattle.records_answer.specs.Value.{requestCookie, unchangedPlan, keepingPlan, planFor, planOf}
-use Rattle.records_answer.specs.declared.value.Plan.{Plan}
-use Rattle.records_answer.proofs.RowInRecords.{row-most, right-row, leave-row, join-row}
+use Rattle.answer_plan.specs.Step.{Stepped, stepped, rowInRecords, refusedStep, answerStep}
+use Rattle.answer_plan.specs.Value.{requestCookie, unchangedPlan, keepingPlan, planFor, planOf}
+use Rattle.answer_plan.specs.declared.Plan.{Plan}
+use Rattle.answer_plan.proofs.RowInRecords.{row-most, right-row, leave-row, join-row}
 
 module _ (rs : List Record) (freshCookie : ServerCookie) where
   -- the records after a plan: they stay, or a record leaves and then the fresh cookie joins

@@ -1,8 +1,8 @@
 -- `keeping` meets its contract: each branch is a case of the tests. Assumes nothing.
 use borrow.Author.Needs.{needs}
 use borrow.Author.Tests.{eq-eqb, ne-eqb}
-use Rattle.records_answer.proofs.value.keeping.Statement.{statement}
-use Rattle.records_answer.proofs.value.keeping.Tie as tie
+use Rattle.answer_plan.proofs.keeping.Statement.{statement}
+use Rattle.answer_plan.proofs.keeping.Tie as tie
 
 returns : tie.Need-returns
 returns c = rw (c .before .if1 .taken, eq-eqb _ 0 (c .if2 .taken))

@@ -9,7 +9,7 @@ use Rattle.header.specs.declared.Reading.the-variants.{Fields, Refused}
 use Rattle.store_rules.specs.Row.{Record, usedOf}
 use Rattle.records.specs.Records.{unusedRecord, wrongRecords}
 use Rattle.responder_rules.specs.Answer.{savedTime, rowAfter, wrongFresh, refusedAnswer}
-use Rattle.records_answer.specs.declared.AnswerStep.{AnswerStep}
+use Rattle.answer_plan.specs.declared.AnswerStep.{AnswerStep}
 
 -- a row in n records: the used ones first
 abbrev pub rowInRecords : ℕ → List Record → List Record

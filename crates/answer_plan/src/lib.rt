@@ -1,12 +1,17 @@
 // What a step decides, by value.
-use crate::AnswerStep;
 use answer_header::wants_interleaved;
 use header::Header;
 use header::Reading;
 use header::ServerCookie;
 ghost use mathlib.Core.Path.{_≡_};
 ghost use Rattle.responder_rules.specs.Answer.{refusedAnswer};
-ghost use Rattle.records_answer.specs.Value.{requestCookie, unchangedPlan, keepingPlan, planFor, planOf};
+ghost use Rattle.answer_plan.specs.Value.{requestCookie, unchangedPlan, keepingPlan, planFor, planOf};
+
+// What the step of an answer on the records returns: its refusal, and the saved time that is sent, 0 in a basic answer.
+pub struct AnswerStep {
+    pub refusal: u8,
+    pub saved: u64,
+}
 
 // What a step returns, and whether the records stay; if not, the place of the record that leaves (past the end, none) before the fresh cookie joins.
 pub struct Plan {
@@ -16,7 +21,7 @@ pub struct Plan {
 }
 
 // The server cookie of a request; 0 where it is refused.
-pub(crate) fn asked_cookie(request: Reading) -> ServerCookie
+pub fn asked_cookie(request: Reading) -> ServerCookie
     ensures { λ r. ⌜ r ≡ requestCookie request ⌝ }
 {
     let Reading::Fields(asked) = request else {
@@ -98,7 +103,7 @@ fn plan_for(
 }
 
 // Any request.
-pub(crate) fn plan_of(
+pub fn plan_of(
     wrong: bool,
     request: Reading,
     short: bool,

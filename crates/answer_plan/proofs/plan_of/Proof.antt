@@ -1,7 +1,7 @@
 -- `plan_of` meets its contract: each branch is a case of the request. Assumes nothing.
 use borrow.Author.Needs.{needs}
-use Rattle.records_answer.proofs.value.plan_of.Statement.{statement}
-use Rattle.records_answer.proofs.value.plan_of.Tie as tie
+use Rattle.answer_plan.proofs.plan_of.Statement.{statement}
+use Rattle.answer_plan.proofs.plan_of.Tie as tie
 
 enum-known-request : tie.Need-enum-known-request
 enum-known-request c = search needs

@@ -15,7 +15,7 @@ use Rattle.store_rules.proofs.Rows.{Parted, part-row, held-append, index-append
 use Rattle.store_rules.proofs.Stores.{all-unused-are}
 use Rattle.records.specs.Records.{unusedRecord, leaveRecords, withCookieAtFree, joinRecords}
 use Rattle.records.proofs.Sounds.{Sound}
-use Rattle.records_answer.specs.Step.{rowInRecords}
+use Rattle.answer_plan.specs.Step.{rowInRecords}
 
 -- ---- records that are not wrong are so
 

@@ -7,7 +7,7 @@ use Rattle.header.specs.declared.ServerCookie.{ServerCookie}
 use Rattle.header.specs.declared.Reading.{Reading}
 use Rattle.header.specs.declared.Reading.the-variants.{Fields, Refused}
 use Rattle.responder_rules.specs.Answer.{wantsInterleaved, refusedAnswer}
-use Rattle.records_answer.specs.declared.value.Plan.{Plan}
+use Rattle.answer_plan.specs.declared.Plan.{Plan}
 
 -- the server cookie of a request; 0 where it is refused
 abbrev pub requestCookie : Reading → ServerCookie

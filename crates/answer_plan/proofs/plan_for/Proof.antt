@@ -1,8 +1,8 @@
 -- `plan_for` meets its contract: each branch is a case of the refusal. Assumes nothing.
 use borrow.Author.Tests.{eq-eqb, ne-eqb}
 use borrow.Author.Needs.{needs}
-use Rattle.records_answer.proofs.value.plan_for.Statement.{statement}
-use Rattle.records_answer.proofs.value.plan_for.Tie as tie
+use Rattle.answer_plan.proofs.plan_for.Statement.{statement}
+use Rattle.answer_plan.proofs.plan_for.Tie as tie
 
 wants-interleaved-requires : tie.Need-wants-interleaved-requires
 wants-interleaved-requires c κs = search needs

@@ -1,7 +1,7 @@
 -- `refused` meets its contract: each test is one of the definition's. Assumes nothing.
 use borrow.Author.Tests.{eq-eqb, ne-eqb}
-use Rattle.records_answer.proofs.value.refused.Statement.{statement}
-use Rattle.records_answer.proofs.value.refused.Tie as tie
+use Rattle.answer_plan.proofs.refused.Statement.{statement}
+use Rattle.answer_plan.proofs.refused.Tie as tie
 
 returns : tie.Need-returns
 returns c = rw (c .if1 .taken)
