@@ -5,17 +5,22 @@ use text::gather::gather;
 use text::part;
 use text::piece;
 
-// Reads more of the input if all that was read has been gathered. The end of the input ends a line.
-fn refill(file: i32, text: &mut [u8], state: Line) -> Line {
+// Reads more of the input if all that was read has been gathered. The end of the input ends a line. A read that fails is
+// said at once, before another call can change errno; it ends the input, and the line that it cut is not run.
+fn refill(file: i32, name: &[u8], text: &mut [u8], state: Line) -> Line {
     if state.at < state.count {
         return state;
     }
-    let count = io::count(libc::read(file, text), text);
+    let got = libc::read(file, text);
+    if got < 0 {
+        os::fail(name);
+    }
+    let count = io::count(got, text);
     Line {
         number: state.number,
         size: state.size,
         comment: state.comment,
-        ended: count == 0,
+        ended: got == 0,
         count: count,
         at: 0,
         last: count == 0,
@@ -46,9 +51,9 @@ fn finish(rows: &[u8], line: &[u8], state: Line, table: &mut [u8], kept: &mut [u
     }
 }
 
-// Reads to the end of the input. A proved loop has to end, and nothing says that the input does: so the
+// Reads the file of this name to its end. A proved loop has to end, and nothing says that the input does: so the
 // loop counts its turns down, from a number that no run uses up.
-pub(crate) fn run_all(file: i32, rows: &[u8]) {
+pub(crate) fn run_all(file: i32, name: &[u8], rows: &[u8]) {
     let mut text = io::large_buffer();
     let mut line = io::large_buffer();
     let mut table = [0u8; 10240];
@@ -65,7 +70,7 @@ pub(crate) fn run_all(file: i32, rows: &[u8]) {
     let mut turns = u64::MAX;
     while turns > 0 && !state.last {
         turns -= 1;
-        state = refill(file, &mut text, state);
+        state = refill(file, name, &mut text, state);
         state = gather(part(&text, 0, state.count), state, &mut line);
         state = finish(rows, &line, state, &mut table, &mut kept);
     }

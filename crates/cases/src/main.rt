@@ -3,18 +3,30 @@
 mod calls;
 mod input;
 
-// The descriptor to read from: the file that the first argument names, or standard input; below 0 where it can't be opened.
-fn opened() -> i32 {
-    if os::arg_count() < 2 {
-        return libc::STDIN_FILENO;
-    }
-    let mut name = io::buffer();
+// The longest name that a file is opened by, without the 0 that ends it.
+const LONGEST_NAME: usize = libc::PATH_MAX - 1;
+
+// Writes to standard error why nothing is run.
+fn refuse(why: &[u8]) {
+    io::write_all(libc::STDERR_FILENO, b"cases: ");
+    io::write_all(libc::STDERR_FILENO, why);
+    io::write_all(libc::STDERR_FILENO, b"; usage: cases [FILE]\n");
+}
+
+// Runs the file that the argument names. Of a name that is empty, and of one that is too long, `arg` answers 0.
+fn run_file(rows: &[u8]) {
+    let mut name = [0u8; LONGEST_NAME];
     let n = os::arg(1, &mut name);
+    if n == 0 {
+        refuse(b"a file's name has 1 to 4095 octets");
+        return;
+    }
     let file = os::open_read(&name[0..n]);
     if file < 0 {
         os::fail(&name[0..n]);
+        return;
     }
-    file
+    input::run_all(file, &name[0..n], rows);
 }
 
 // The rows of the calls, with each word's letter (crate rows) and the form of the result line (crate print).
@@ -40,8 +52,9 @@ fn main() {
         lend I %o\n\
         report qq %d %o\n\
         answer IqqqbbssbbhwwIIO %r %d %o\n";
-    let file = opened();
-    if file >= 0 {
-        input::run_all(file, rows);
+    match os::arg_count() {
+        0 | 1 => input::run_all(libc::STDIN_FILENO, b"standard input", rows),
+        2 => run_file(rows),
+        _ => refuse(b"one file at most"),
     }
 }
