@@ -13,6 +13,7 @@ sys.dont_write_bytecode = True      # no generated folder beside the sources
 sys.path.insert(0, str(pathlib.Path(__file__).resolve().parent.parent / "tools"))
 import claims       # noqa: E402
 import contracts    # noqa: E402
+import story_test   # noqa: E402
 import trace_test   # noqa: E402
 
 RULES = {"crates/own/specs/Rules.antt": {"cleared", "sizeOf", "twice"}, "crates/below/specs/Base.antt": {"base"}}
@@ -232,7 +233,7 @@ def main():
     """Says how many tests passed: none is no success either."""
     output = io.StringIO()
     load = unittest.defaultTestLoader.loadTestsFromModule
-    tests = unittest.TestSuite(load(module) for module in (sys.modules[__name__], trace_test))
+    tests = unittest.TestSuite(load(module) for module in (sys.modules[__name__], story_test, trace_test))
     result = unittest.TextTestRunner(stream=output).run(tests)
     if not result.wasSuccessful() or result.skipped or not result.testsRun:
         print(output.getvalue())

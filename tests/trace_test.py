@@ -1,4 +1,3 @@
-#!/usr/bin/env python3
 """Shows that tools/trace.py refuses what it is for: small wrong pages and citations, and right ones."""
 import pathlib
 import sys
