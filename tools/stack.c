@@ -1,90 +1,131 @@
-/* How much stack a call of the library takes: each runs on a painted stack of its own, and the paint that is gone is counted. */
-#define _POSIX_C_SOURCE 200809L
-#include "ntp5.h"
-#include <pthread.h>
-#include <stdio.h>
-#include <string.h>
+/*
+ * How much stack each call of the library takes, its arguments and return address included, and whether that is within a limit. A
+ * signal handler makes the call on a painted stack of its own, where nothing else writes below the handler; the octets whose paint
+ * is gone are counted, less those of a handler that calls nothing.
+ *
+ * Each call is tried on several inputs, and the deepest counts. Prints `call octets limit input`, and ends with 1 if a call is above
+ * its limit or far below it, or if it was refused otherwise than its input asks: then it has not gone where it should.
+ */
+#define _XOPEN_SOURCE 700
+#include <signal.h>
 
-enum { STACK = 1 << 18, PAINT = 0xA5, SIZE = 10240, RECORDS = 64 };
+#include "stack_inputs.h"
 
-static _Alignas(64) unsigned char stack[STACK];
-static uint8_t table[SIZE], store[16 * RECORDS], request[1280], response[1280], filter[512], id[15], out[1280];
-static size_t length;
+enum {
+    STACK = 1 << 18,
+    PAINT = 0xA5,
+    PROMISED = 12 * 1024, /* the stack that the README asks of a caller */
+    SMALL = 64            /* the limit of a call that takes next to nothing */
+};
+
+static unsigned char stack[STACK];
+
+/* A limit is about a fifth above what the call takes; docs/PERFORMANCE.md has both. */
+static const struct row {
+    const char *name;
+    void (*call)(void);
+    const char *(*input)(size_t n);
+    size_t limit;
+} rows[] = {
+    {"ntp5_table_octets", call_table_octets, any, SMALL},
+    {"ntp5_clear", call_clear, any, SMALL},
+    {"ntp5_open", call_open, closed, 1200},
+    {"ntp5_close", call_close, opened, 1200},
+    {"ntp5_poll", call_poll, opened, 1330},
+    {"ntp5_sent", call_sent, polled, 1200},
+    {"ntp5_receive", call_receive, responses, 12000},
+    {"ntp5_loop_verdict", call_loop_verdict, complete_filter, 370},
+    {"ntp5_publish", call_publish, complete, 930},
+    {"ntp5_store_clear", call_store_clear, any, SMALL},
+    {"ntp5_report", call_report, stored, 100},
+    {"ntp5_answer", call_answer, answerable, 12200},
+    {"ntp5_header_read", call_header_read, header_alone, 240},
+    {"ntp5_header_write", call_header_write, any, 270},
+    {"ntp5_sound", call_sound, requests, 11800},
+    {"ntp5_filter_add", call_filter_add, any, 130},
+    {"ntp5_filter_union", call_filter_union, any, SMALL},
+    {"ntp5_filter_weight", call_filter_weight, any, SMALL},
+    {"ntp5_measure", call_measure, any, SMALL},
+};
 
 static void nothing(void) { }
 
-static void poll_call(void)
+static void (*handled)(void); /* the call that the handler makes */
+
+static void handle(int number)
 {
-    ntp5_written w = ntp5_poll(table, SIZE, 0, 7, 6, true, request, sizeof request);
-    length = w.length;
+    (void)number;
+    handled();
 }
 
-static void sent_call(void) { ntp5_sent(table, SIZE, 0, 1); }
-
-static void answer_call(void)
+/* The octets of the painted stack that a handler with this call writes to. */
+static size_t written(void (*call)(void))
 {
-    ntp5_answer(store, sizeof store, request, length, 5, 6, 9, 0, 1, 6, -20, 0, 0, 0, 0, 0, filter, 512, id, 4, response, sizeof response);
-}
-
-static void receive_call(void) { ntp5_receive(table, SIZE, 0, response, length, 9); }
-
-static void verdict_call(void) { ntp5_loop_verdict(table, SIZE, 0, id, sizeof id); }
-
-static void publish_call(void) { ntp5_publish(table, SIZE, 1, id, sizeof id, out, sizeof out); }
-
-static void report_call(void) { ntp5_report(store, sizeof store, 9, 10); }
-
-/* 308 fields of four octets: the longest chain. */
-static void sound_call(void)
-{
-    memset(out, 0, sizeof out);
-    out[0] = 0x2B;
-    for (size_t at = 48; at < sizeof out; at += 4)
-        memcpy(out + at, "\xF5\x01\x00\x04", 4);
-    ntp5_sound(out, sizeof out, 3);
-}
-
-static void long_answer_call(void)
-{
-    ntp5_answer(store, sizeof store, out, sizeof out, 5, 6, 11, 0, 1, 6, -20, 0, 0, 0, 0, 0, filter, 512, id, 4, response, sizeof response);
-}
-
-static void add_call(void) { ntp5_filter_add(filter, 512, id, sizeof id); }
-
-static void *run(void *call)
-{
-    ((void (*)(void)) call)();
-    return 0;
-}
-
-static size_t used(void (*call)(void))
-{
-    pthread_attr_t attributes;
-    pthread_t thread;
-    memset(stack, PAINT, sizeof stack);
-    pthread_attr_init(&attributes);
-    pthread_attr_setstack(&attributes, stack, sizeof stack);
-    if (pthread_create(&thread, &attributes, run, (void *) call) != 0)
-        return 0;
-    pthread_join(thread, 0);
     size_t clean = 0;
+    memset(stack, PAINT, sizeof stack);
+    handled = call;
+    raise(SIGUSR1);
     while (clean < sizeof stack && stack[clean] == PAINT)
         clean++;
     return sizeof stack - clean;
 }
 
+/* The deepest that a call goes on its inputs, and the name of that input; 0 if it was refused otherwise than the input asks. */
+static size_t deepest(const struct row *r, const char **input)
+{
+    size_t most = 0, none = written(nothing);
+    for (size_t n = 0;; n++) {
+        expected = NTP5_OK;
+        const char *name = r->input(n);
+        if (name == NULL)
+            return most;
+        size_t octets = written(r->call) - none;
+        if (refusal != expected) {
+            printf("stack: %s, %s: refused with %u, and not with %u\n", r->name, name, refusal, expected);
+            return 0;
+        }
+        if (octets > most) {
+            most = octets;
+            *input = name;
+        }
+    }
+}
+
+/* What is wrong with a call that takes so many octets, or with its limit; NULL if nothing is. */
+static const char *fault(size_t octets, size_t limit)
+{
+    if (octets == 0)
+        return "was not looked at";
+    if (octets > limit)
+        return "is above its limit";
+    if (octets < limit / 2 && limit > SMALL)
+        return "is far below its limit: that is too high, or the inputs no longer go deep";
+    return limit > PROMISED ? "has a limit above what the README promises" : NULL;
+}
+
 int main(void)
 {
-    static const struct { const char *name; void (*call)(void); } calls[] = {
-        { "poll", poll_call }, { "sent", sent_call }, { "answer", answer_call }, { "report", report_call }, { "receive", receive_call },
-        { "loop_verdict", verdict_call }, { "publish", publish_call }, { "sound, 308 fields", sound_call },
-        { "answer, 308 fields", long_answer_call }, { "filter_add", add_call },
-    };
-    ntp5_clear(table, SIZE);
-    ntp5_store_clear(store, sizeof store);
-    ntp5_open(table, SIZE, 0, 0, 512);
-    size_t none = used(nothing);
-    for (size_t i = 0; i < sizeof calls / sizeof calls[0]; i++)
-        printf("%-20s %zu\n", calls[i].name, used(calls[i].call) - none);
-    return 0;
+    stack_t own = {.ss_sp = stack, .ss_size = sizeof stack};
+    struct sigaction action = {.sa_handler = handle, .sa_flags = SA_ONSTACK};
+    size_t calls = sizeof rows / sizeof rows[0], most = 0;
+    bool wrong = false;
+    size = ntp5_table_octets();
+    if (sigaltstack(&own, NULL) != 0 || sigaction(SIGUSR1, &action, NULL) != 0) {
+        printf("stack: no stack of its own for a signal handler\n");
+        return 1;
+    }
+    for (size_t i = 0; i < calls; i++) {
+        const char *input = "";
+        size_t octets = deepest(&rows[i], &input);
+        printf("%-18s %6zu %6zu  %s\n", rows[i].name, octets, rows[i].limit, input);
+        const char *why = fault(octets, rows[i].limit);
+        if (why != NULL) {
+            printf("stack: %s %s\n", rows[i].name, why);
+            wrong = true;
+        }
+        most = octets > most ? octets : most;
+    }
+    if (!wrong)
+        printf("stack: %zu calls, the deepest %zu octets, each below its limit\n", calls, most);
+    return wrong;
 }
