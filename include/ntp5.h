@@ -193,7 +193,8 @@ uint8_t ntp5_sent(uint8_t *table, size_t table_len, uint8_t association, uint64_
 /*
  * Takes a datagram that came from the association's server at T4. `datagram` is only read. If it is accepted, the request is
  * used up, so that a second copy is refused with 9; the filter chunk is taken, whatever the judgement, and the exchange
- * is measured if it is usable.
+ * is measured if it is usable. A buffer to receive into has room for more than NTP5_DATAGRAM_AT_MOST octets, so that a longer
+ * datagram is refused and not cut to a right length; the same holds for ntp5_answer.
  * Refuses: 6 (also T4 of 0), 7 if not open, 1 to 5, 13, 9 if it does not answer the outstanding request, 10.
  */
 ntp5_received ntp5_receive(uint8_t *table, size_t table_len, uint8_t association, const uint8_t *datagram,
