@@ -25,7 +25,7 @@ pub record Stepped : Type 0 where
 abbrev pub stepped : AnswerStep → List Record → Stepped
 stepped r rs = record { refusal = r .refusal; saved = r .saved; records = rs }
 
--- a refusal leaves the records
+-- N-28: a refusal leaves the records
 abbrev pub refusedStep : ℕ → List Record → Stepped
 refusedStep n rs = record { refusal = n; saved = 0; records = rs }
 

@@ -24,7 +24,7 @@ ofHeader h = record {
   transmit = h .transmit;
 }
 
--- the header of a refusal
+-- N-27: the header of a refusal
 abbrev pub noHeader : Header
 noHeader = record {
   leap = 0;

@@ -1,4 +1,4 @@
--- The structs of the C interface: what each says in the core's terms. What it does not speak of is 0.
+-- The structs of the C interface, S-4: what each says in the core's terms. What it does not speak of is 0.
 use mathlib.Core.List.{List, []}
 use Prim.Native.Nat.{ℕ}
 use lib.IntN.{pos}

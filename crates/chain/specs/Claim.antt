@@ -12,7 +12,7 @@ use Rattle.chain.specs.declared.cursor.Cursor.{Cursor}
 use Rattle.chain.specs.declared.cursor.Field.{Field}
 use Rattle.chain.specs.declared.cursor.Step.the-variants.{Found}
 
--- a step that finds a field hands back the place right after the field's data and padding, and within the octets
+-- F-5: a step that finds a field leads to the place right after its padding, and within the octets
 abbrev pub PlaceReached : Type 0
 PlaceReached = (s : List ℕ) (at : ℕ) (f : Field) (c : Cursor) → stepAt s at ≡ Found f c → (c .at ≡ at + 4 + padded (f .size)) × (c .at ≤ length s)
 
@@ -20,15 +20,15 @@ PlaceReached = (s : List ℕ) (at : ℕ) (f : Field) (c : Cursor) → stepAt s a
 abbrev pub FieldsInside : Type 0
 FieldsInside = (s : List ℕ) (at : ℕ) → AllInside s (fieldsFrom s at)
 
--- neither 4 nor 5 is given exactly where the octets are a chain: empty, or one sound field followed by a chain
+-- F-2: neither 4 nor 5 is given exactly where the octets are a chain
 abbrev pub ChainsAccepted : Type 0
 ChainsAccepted = (s : List ℕ) → chainRefusal s ≡ 0 ↔ Chain s
 
--- a datagram is sound exactly when its header passes, what follows the header is a chain, and no field stands after the first MAC
+-- F-8, W205-2, W205-3: sound exactly when the header passes, what follows is a chain, and no field stands after the first MAC
 abbrev pub SoundDatagrams : Type 0
 SoundDatagrams = (s : List ℕ) (wanted : ℕ) → soundRefusal s wanted ≡ 0 ↔ (Passes s wanted × Chain (drop 48 s) × NothingAfterMac (fieldsOf s))
 
--- refusal 13 is given exactly when only the last of the three fails: never where the header or a field, also one after the MAC, is wrong
+-- W205-4, W205-5: 13 exactly when only the last of the three fails: never where the header or a field, also one after the MAC, is wrong
 abbrev pub AfterMacRefused : Type 0
 AfterMacRefused = (s : List ℕ) (wanted : ℕ) → soundRefusal s wanted ≡ 13 ↔ (Passes s wanted × Chain (drop 48 s) × (NothingAfterMac (fieldsOf s) → ⊥))
 

@@ -1,4 +1,4 @@
--- Document 01's idle programs of the client: the claim that the page names is false of each.
+-- The idle programs (P-4) of the client, P-5, P-6 and P-8: the claim that the rule names is false of each.
 use mathlib.Core.Path.{_≡_}
 use mathlib.Core.Bool.{cond}
 use mathlib.Core.List.{List, _++_}
@@ -12,14 +12,14 @@ use Rattle.client_rules.specs.Octets.{part, putPart, stepOctets}
 use Rattle.client_rules.specs.Claim.{Client, clearedBy, cleared, reachedBy, reached, Reordered, Filters, ForEveryList, Demand3For, NothingLostFor, Demand2For, PublicationsFor, FirstPollFor}
 use Rattle.client_rules.specs.Refused.{lent, RefusalsFor}
 
--- refuses everything; and every client that does, whatever else it answers and leaves
+-- P-5: refuses everything; and every client that does, whatever else it answers and leaves
 abbrev pub refusesAll : Client
 refusesAll c t = (plainAnswer 6 (lent c), t)
 
 abbrev pub RefusesAll : Client → Type 0
 RefusesAll step = (c : Call) (t : List ℕ) → step c t .0 .refusal ≡ 0 → ⊥
 
--- does nothing, and answers success; and every client that stores nothing, or writes nothing, whatever else it does
+-- P-6: does nothing, and answers success; and every client that stores nothing, or writes nothing, whatever else it does
 abbrev pub doesNothing : Client
 doesNothing c t = (plainAnswer 0 (lent c), t)
 
@@ -29,7 +29,7 @@ StoresNothing step = (c : Call) (t : List ℕ) → step c t .1 ≡ t
 abbrev pub WritesNothing : Client → Type 0
 WritesNothing step = (c : Call) (t : List ℕ) → step c t .0 .out ≡ lent c
 
--- places only the first chunk: the octets u, with the filter that a had in t, where a chunk had been taken
+-- P-8: places only the first chunk: the octets u, with the filter that a had in t, where a chunk had been taken
 unfoldable pub withFilter : ℕ → List ℕ → List ℕ → List ℕ
 withFilter a t u = putPart a u (take headSize (part a u) ++ drop headSize (part a t))
 
@@ -48,7 +48,7 @@ abbrev pub placesFirst : Client
 placesFirst c t = (stepOctets c t .0, firstPlaced c t (stepOctets c t .1))
 
 pub record IdleRejected : Type 0 where
-  -- demand 2's acceptance and the whole first poll
+  -- demand 2's acceptance and the whole first poll, M-13
   pub refusing : Demand2For refusesAll → ⊥
   pub refusing-poll : FirstPollFor refusesAll → ⊥
   pub idling : Demand2For doesNothing → ⊥
@@ -70,7 +70,7 @@ pub record HoldsOfRefusing : Type 0 where
   pub refusals : RefusalsFor refusesAll
   pub publications : PublicationsFor refusesAll
 
--- demand 3 holds of no other client than ours: one that keeps it answers and leaves, after every list of calls, what ours does
+-- P-10: demand 3 holds of no other client than ours: one that keeps it answers and leaves, after every list of calls, what ours does
 pub record SameAsOurs (step : Client) (t : List ℕ) (cs : List (TaggedCall Call)) : Type 0 where
   pub same-answers : answers step cs (clearedBy step t) ≡ answers stepOctets cs (cleared t)
   pub same-end : reachedBy step t cs ≡ reached t cs

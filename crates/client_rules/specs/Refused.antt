@@ -1,5 +1,4 @@
--- Demand 1 of the client: a refusal returns its number and zeros, and changes nothing. Of any call, whatever its arguments, on any
--- octets lent as a table, of any size.
+-- Refusals of the client, N-27 and N-28: of any call, whatever its arguments, on any octets lent as a table, of any size (D-1).
 use mathlib.Core.Path.{_≡_}
 use mathlib.Core.Bool.{true}
 use mathlib.Core.List.{List, [], _∷_}
@@ -20,7 +19,7 @@ lent (receive a datagram t4) = []
 lent (loopVerdict a id) = []
 lent (publish selected id out) = out
 
--- the refusals that concern a call, in the page's order
+-- the refusals that concern a call by N-1 to N-24 and W205-4, in the order of N-26
 abbrev pub refusalsOf : Call → List ℕ
 refusalsOf clearTable = 6 ∷ []
 refusalsOf (openOne a timescale c) = 6 ∷ 7 ∷ []
@@ -34,7 +33,7 @@ refusalsOf (publish selected id out) = 6 ∷ 7 ∷ 11 ∷ []
 -- what a refused call answers and leaves
 pub record RefusedCall (c : Call) (t : List ℕ) (w : Answer × List ℕ) : Type 0 where
   pub table-kept : w .1 ≡ t
-  -- the output is as lent, and every number of the answer but the refusal is 0
+  -- the output is as lent, and every number of the answer but the refusal is 0, N-27
   pub zeros : w .0 ≡ plainAnswer (w .0 .refusal) (lent c)
   pub number : among (w .0 .refusal) (refusalsOf c) ≡ true
 

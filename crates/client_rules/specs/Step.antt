@@ -14,14 +14,14 @@ use Rattle.client_rules.specs.Select.{Seen, verdictFor, publishFor}
 
 pub record Table (S : Type 0) : Type 0 where
   pub rightSize : S → Bool
-  -- every association is closed
+  -- C-2: every association is closed
   pub cleared : S
   -- an event on one of the sixteen, and the datagram that it came with
   pub event : ℕ → Event → List ℕ → S → Reply × S
   -- the filter of one association
   pub filter : S → ℕ → List ℕ
 
--- an event on an association: 6 for a table of the wrong size or an association above 15
+-- an event on an association: 6 by N-9 and N-6
 unfoldable pub eventOn : {S : Type 0} → Table S → ℕ → Event → List ℕ → S → Reply × S
 eventOn T a e datagram s = cond (T .rightSize s && ltb a 16) (T .event a e datagram s) (plainReply 6, s)
 
@@ -37,12 +37,15 @@ seen T s a = record {
 abbrev pub answering : {S : Type 0} → (Reply → Answer) → Reply × S → Answer × S
 answering answer w = (answer (w .0), w .1)
 
+-- C-2, N-9, N-15
 unfoldable pub clearing : {S : Type 0} → Table S → S → Answer × S
 clearing T s = cond (T .rightSize s) (plainAnswer 0 [], T .cleared) (plainAnswer 6 [], s)
 
+-- N-9
 unfoldable pub publishing : {S : Type 0} → Table S → (selected : ℕ) (id out : List ℕ) → S → Answer
 publishing T selected id out s = cond (T .rightSize s) (publishFor selected id out (seen T s)) (plainAnswer 6 out)
 
+-- C-3, C-31
 abbrev pub step : {S : Type 0} → Table S → Call → S → Answer × S
 step T clearTable s = clearing T s
 step T (openOne a timescale c) s = answering refusalAnswer (eventOn T a (Open timescale c) [] s)

@@ -1,4 +1,4 @@
--- Which fields of a request mean something to a responder, and which are unknown and skipped.
+-- Which fields of a request mean something to a responder, and which are unknown and skipped: F-9 to F-19.
 use mathlib.Core.Path.{_≡_}
 use mathlib.Core.Bool.{Bool, true, false, cond, _&&_, _||_}
 use mathlib.Core.List.{List, [], _∷_}
@@ -10,29 +10,28 @@ use Rattle.field_role.specs.declared.Met.{Met}
 use Rattle.field_role.specs.declared.Role.{Role}
 use Rattle.field_role.specs.declared.Role.the-variants.{FilterRequest, Information, DraftName, Unknown}
 
--- a filter request of n data octets is good when n is a multiple of 4 from 4 to 512 and offset + n is at most 512
+-- F-14: a filter request of n data octets is good
 abbrev pub goodRequest : ℕ → ℕ → Bool
 goodRequest offset n = eqb (n % 4) 0 && leb 4 n && leb n 512 && leb (offset + n) 512
 
+-- F-15, F-17: by offset and length alone
 abbrev pub requestRole : ℕ → ℕ → Role
 requestRole offset n = cond (goodRequest offset n) (FilterRequest offset) Unknown
 
--- what the first field of its type means in the datagram s: a filter request if it is good, server information of length 8
--- (four data octets), a draft name of any length; any other type, and a known type that isn't good, is unknown
+-- S-2: what the first field of its type means in the datagram s
 abbrev pub firstRole : List ℕ → Field → Role
 firstRole s f =
-    cond (eqb (f .kind) 0xF503) (requestRole (getAt s (f .start) 2) (f .size))
-    (cond (eqb (f .kind) 0xF505) (cond (eqb (f .size) 4) Information Unknown)
-    (cond (eqb (f .kind) 0xF5FF) DraftName
-    Unknown))
+    cond (eqb (f .kind) 0xF503) (requestRole (getAt s (f .start) 2) (f .size))  -- F-10
+    (cond (eqb (f .kind) 0xF505) (cond (eqb (f .size) 4) Information Unknown)  -- F-12, F-17
+    (cond (eqb (f .kind) 0xF5FF) DraftName  -- F-13
+    Unknown))  -- F-9, F-16, F-19, W205-8
 
 -- a field of a type is among those before
 unfoldable pub alreadyMet : ℕ → List Field → Bool
 alreadyMet kind [] = false
 alreadyMet kind (f ∷ before) = eqb (f .kind) kind || alreadyMet kind before
 
--- what a field means, given whether one of its type stands before it: a second field of a type already met is unknown, also where
--- the first wasn't good
+-- F-18: what a field means, given whether one of its type stands before it
 unfoldable pub roleGiven : Bool → List ℕ → Field → Role
 roleGiven met s f = cond met Unknown (firstRole s f)
 

@@ -1,4 +1,4 @@
--- Publishing: the union of the filters of the associations that a 16-bit number selects, with the own ID added.
+-- What publishing writes, B-8, B-10 and B-11.
 use mathlib.Core.Bool.{Bool, cond}
 use mathlib.Core.List.{List, [], _∷_}
 use Prim.Native.Nat.{ℕ, zero, suc, _/_, _%_, _^_}
@@ -15,7 +15,7 @@ unfoldable pub selectedFrom : (selected n a : ℕ) → List ℕ
 selectedFrom selected zero a = []
 selectedFrom selected (suc n) a = cond (bit a selected) (a ∷ selectedFrom selected n (suc a)) (selectedFrom selected n (suc a))
 
--- the selected ones of all sixteen
+-- B-8: the selected ones of all sixteen
 abbrev pub selectedAssociations : ℕ → List ℕ
 selectedAssociations selected = selectedFrom selected 16 0
 
@@ -24,6 +24,6 @@ unfoldable pub joined : (ℕ → List ℕ) → List ℕ → List ℕ → List �
 joined filterOf f [] = f
 joined filterOf f (a ∷ rest) = joined filterOf (union f (filterOf a)) rest
 
--- the selected ones' filters, joined from a fresh one on, and the own ID added; none selected gives the own ID alone
+-- B-8, B-10, B-11: the selected ones' filters, joined from a fresh one on, and the own ID added
 abbrev pub publishedFilter : (ℕ → List ℕ) → ℕ → List ℕ → List ℕ
 publishedFilter filterOf selected id = addAll (joined filterOf freshFilter (selectedAssociations selected)) (positions id)

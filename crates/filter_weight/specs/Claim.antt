@@ -1,4 +1,4 @@
--- Document 01, "Filter": weight is the number of bits set. And by whole words, as W-203 asks.
+-- The weight, B-6, as the number of bits set, and by whole words, W203-3.
 use mathlib.Core.Path.{_≡_}
 use mathlib.Core.List.{List}
 use Prim.Native.Nat.{ℕ}
@@ -8,10 +8,10 @@ use Rattle.filter_rules.specs.Filter.{weight}
 use Rattle.filter_words.specs.Words.{lowFirst, wordsOf}
 use Rattle.filter_weight.specs.Weighing.{onesOf}
 
--- the positions that are set are as many as the ones of the number that the filter's octets spell
+-- B-6: the positions that are set are as many as the ones of the number that the filter's octets spell
 abbrev pub BitsSet : Type 0
 BitsSet = (f : List ℕ) → Octets f → weight f ≡ ones (lowFirst f 0 512)
 
--- the weight is the sum of the ones of the 64 words
+-- W203-3
 abbrev pub WeightOfWords : Type 0
 WeightOfWords = (f : List ℕ) → Octets f → weight f ≡ onesOf (wordsOf f)

@@ -1,4 +1,4 @@
--- The laws of a filter's words.
+-- The laws of a filter's words, W203-1.
 use mathlib.Core.Path.{_≡_}
 use mathlib.Core.List.{List}
 use Prim.Native.Nat.{ℕ, _*_, _<_}

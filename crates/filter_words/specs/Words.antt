@@ -1,5 +1,5 @@
--- A filter as 64 words of 64 bits. Word i is spelled by octets 8i to 8i + 7, the first of them the lowest, so that position p is
--- weight 2^(p mod 64) of word p div 64.
+-- A filter as 64 words of 64 bits, W203-1. Word i is spelled by octets 8i to 8i + 7, the first of them the lowest, so that position p
+-- is weight 2^(p mod 64) of word p div 64.
 use mathlib.Core.Bool.{Bool, cond}
 use mathlib.Core.List.{List, [], _∷_}
 use Prim.Native.Nat.{ℕ, zero, suc, _+_, _*_, _/_, _%_, _^_, _<_}

@@ -13,7 +13,7 @@ use Rattle.header.specs.declared.Reading.the-variants.{Fields}
 
 -- WHAT PASSES
 
--- a datagram to which none of refusals 1, 2 and 3 applies
+-- a datagram to which none of N-1 to N-3 applies
 pub record Passes (s : List ℕ) (wanted : ℕ) : Type 0 where
   pub low : 48 ≤ length s
   pub high : length s ≤ 1280
@@ -26,7 +26,7 @@ Passing = (s : List ℕ) (wanted : ℕ) → refusal s wanted ≡ 0 ↔ Passes s 
 
 -- THE DEFINITIONS
 
--- a header is 48 octets
+-- H-1: 48 octets
 abbrev pub HeaderSize : Type 0
 HeaderSize = (h : Header) → length (headerOctets h) ≡ 48
 
@@ -47,22 +47,22 @@ pub record InRange (h : Header) : Type 0 where
   pub receive : h .receive < 256 ^ 8
   pub transmit : h .transmit < 256 ^ 8
 
--- reading what was written gives the same fields, whatever octets follow
+-- H-12, whatever octets follow
 abbrev pub ReadWritten : Type 0
 ReadWritten = (h : Header) (rest : List ℕ) → InRange h → headerOf (headerOctets h ++ rest) ≡ h
 
--- writing what was read gives the same 48 octets
+-- H-13
 abbrev pub WrittenRead : Type 0
 WrittenRead = (s : List ℕ) → Octets s → 48 ≤ length s → versionOf s ≡ 5 → headerOctets (headerOf s) ≡ take 48 s
 
 -- THE CALLS
 
--- a header that is written to a buffer of a datagram's size is not refused, and the buffer is then read as that header
+-- H-12: a header that is written to a buffer of a datagram's size is not refused, and the buffer is then read as that header
 abbrev pub ReadAfterWrite : Type 0
 ReadAfterWrite = (h : Header) (out : List ℕ) → InRange h → 3 ≤ h .mode → h .mode ≤ 4 → 48 ≤ length out → length out ≤ 1280 → length out % 4 ≡ 0
     → (written h out .0 ≡ 0) × (reading (refusal (written h out .1) (h .mode)) (headerOf (written h out .1)) ≡ Fields h)
 
--- a request or response that was read is written as it was: not refused, the same 48 octets, and those after them kept
+-- H-13: a request or response that was read is written as it was: not refused, the same 48 octets, and those after them kept
 abbrev pub WriteAfterRead : Type 0
 WriteAfterRead = (s out : List ℕ) (wanted : ℕ) (h : Header) → Octets s → 3 ≤ wanted → wanted ≤ 4 → 48 ≤ length out
     → reading (refusal s wanted) (headerOf s) ≡ Fields h → written h out ≡ (0, take 48 s ++ drop 48 out)

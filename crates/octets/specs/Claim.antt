@@ -1,4 +1,4 @@
--- The laws of numbers in network order, once for every number of octets n, and of numbers written one after the other.
+-- The laws of numbers in network order, once for every number of octets n (P-14), and of numbers written one after the other.
 use mathlib.Core.Path.{_≡_}
 use mathlib.Core.List.{List, _++_}
 use Prim.Native.Nat.{ℕ, _+_, _*_, _/_, _%_, _^_, _<_, _≤_}

@@ -1,4 +1,4 @@
--- What is read from a poll: document 01's "Poll", for whatever is asked.
+-- What is read from a poll, C-9 to C-12, for whatever is asked.
 use mathlib.Core.Path.{_≡_}
 use mathlib.Core.Bool.{Bool}
 use mathlib.Core.List.{List}
@@ -28,9 +28,9 @@ pub record PollClaim (q : Asked) (cookie : ℕ) (exponent : ℤ) (interleaved : 
   pub long : length poll ≡ pollLength (q .chunk)
   -- it is sound where a request is wanted
   pub sound : soundRefusal poll 3 ≡ 0
-  -- its header is as asked
+  -- C-9, C-10: its header is as asked
   pub header-read : headerOf poll ≡ pollHeader q cookie exponent interleaved
-  -- its fields are the draft name and the filter request, whose data begin with the offset
+  -- C-11, C-12: its fields, and the offset, with which the filter request's data begin
   pub contents : contentsOf poll (fieldsOf poll) ≡ pollFields q
   pub offset : num poll offsetPlace 2 ≡ q .offset
 

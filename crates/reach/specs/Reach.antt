@@ -1,4 +1,4 @@
--- A head is in range exactly if calls on a cleared table lead to it.
+-- N-13: a head is in range exactly if calls on a cleared table lead to it.
 use mathlib.Core.Path.{_≡_}
 use mathlib.Core.Bool.{true}
 use mathlib.Core.List.{List}

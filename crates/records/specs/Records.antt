@@ -1,4 +1,4 @@
--- Document 01, "The store is a row of 1 to 64 records", as a lent slice of records: what each call answers and leaves, for any records lent.
+-- The store, R-1 to R-3, as a lent slice of records, G-9: what each call answers and leaves, for any records lent.
 -- The row's own rules are those of `store_rules`: sound records, when a clear and a report are refused and what they leave, a cookie that is held, its time.
 use mathlib.Core.Path.{_≡_}
 use mathlib.Core.Bool.{Bool, cond, _||_}
@@ -38,7 +38,7 @@ placeFrom rs c i = i + indexOf c (drop i rs)
 abbrev pub timeAt : List Record → (at : ℕ) → ℕ
 timeAt rs at = getD rs at unusedRecord .time
 
--- a row is 1 to 64 records
+-- N-10, by R-1
 abbrev pub wrongCount : ℕ → Bool
 wrongCount n = ltb n 1 || ltb 64 n
 
@@ -63,6 +63,6 @@ unfoldable pub withCookieAtFree : ℕ → List Record → List Record
 withCookieAtFree c [] = []
 withCookieAtFree c (r ∷ rs) = cond (eqb (r .cookie) 0) (record { cookie = c; time = r .time } ∷ rs) (r ∷ withCookieAtFree c rs)
 
--- a cookie joins the end: where no record has cookie 0, the oldest leaves first
+-- R-12, R-13: a cookie joins; where no record has cookie 0, the row is full
 unfoldable pub joinRecords : List Record → ℕ → List Record
 joinRecords rs c = withCookieAtFree c (cond (held 0 rs) rs (leaveRecords rs 0))

@@ -1,4 +1,4 @@
--- Document 01, "Responder and store": the answer to a request where the row is a slice of records, for any records lent.
+-- The answer to a request, R-4 to R-20, where the row is a slice of records, G-9, for any records lent.
 use mathlib.Core.Bool.{cond}
 use mathlib.Core.List.{List}
 use Prim.Native.Nat.{ℕ}

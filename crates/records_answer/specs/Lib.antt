@@ -1,4 +1,4 @@
--- The answer of document 01 with the saved timestamps as a slice of records.
+-- The answer, R-4 to R-20, with the saved timestamps as a slice of records, G-9.
 pub mod Answer
 pub mod Sent
 pub mod Same

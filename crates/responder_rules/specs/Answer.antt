@@ -1,4 +1,4 @@
--- Document 01, "Responder and store": the answer to a request, its octets, and what it leaves in the store.
+-- The answer to a request, R-4 to R-20: its octets, and what it leaves in the store.
 use mathlib.Core.Bool.{Bool, cond, not, _&&_, _||_}
 use mathlib.Core.List.{List, [], _∷_, _++_}
 use Prim.Native.Nat.{ℕ, _+_, _-_, _*_, _/_, _%_}
@@ -18,7 +18,7 @@ use Rattle.responder_rules.specs.declared.Server.{Server}
 use Rattle.responder_rules.specs.declared.Answered.{Answered}
 use Rattle.responder_rules.specs.declared.Answered.the-variants.{Written, Refused}
 
--- what an answer takes beside the store and the output
+-- R-4: what an answer takes beside the store and the output
 pub record Given : Type 0 where
   pub request : List ℕ
   pub receive : ℕ
@@ -43,47 +43,47 @@ given request receive estimate freshCookie server filter information = record {
 abbrev pub asking : Given → Header
 asking g = headerOf (g .request)
 
--- the request's flag 0x2
+-- H-8: the request's flag 0x2
 abbrev pub wantsInterleaved : Header → Bool
 wantsInterleaved asked = interleavedFlag (asked .flags)
 
--- the time saved for the request's server cookie; 0 where flag 0x2 is clear, or the cookie isn't stored with a reported time
+-- R-9: the time saved for the request's server cookie; 0 where the answer is basic, R-7 or R-11
 abbrev pub savedTime : Header → List Record → ℕ
 savedTime asked row = cond (wantsInterleaved asked) (timeOf (asked .«server_cookie» .0) row) 0
 
--- an interleaved answer sends the saved time, a basic one (saved time 0) the estimate; flag 0x2 is set in the first only
+-- R-5; the answer is basic where `saved` is 0
 abbrev pub answerHeader : Server → (asked : Header) (receive estimate freshCookie saved : ℕ) → Header
 answerHeader server asked receive estimate freshCookie saved = record {
   leap = server .leap;
-  mode = 4;
+  mode = 4;  -- H-6
   stratum = server .stratum;
   poll = server .poll;
   precision = server .precision;
   timescale = server .timescale;
   era = server .era;
-  flags = server .flags - server .flags / 2 % 2 * 2 + cond (eqb saved 0) 0 2;
+  flags = server .flags - server .flags / 2 % 2 * 2 + cond (eqb saved 0) 0 2;  -- R-6, R-9, H-9
   «root_delay» = server .«root_delay»;
   «root_dispersion» = server .«root_dispersion»;
-  «server_cookie» = record { 0 = cond (wantsInterleaved asked) freshCookie 0 };
+  «server_cookie» = record { 0 = cond (wantsInterleaved asked) freshCookie 0 };  -- R-7, R-12
   «client_cookie» = asked .«client_cookie»;
   receive = receive;
-  transmit = cond (eqb saved 0) estimate saved;
+  transmit = cond (eqb saved 0) estimate saved;  -- R-7, R-9, R-11
 }
 
--- what answers a field: a filter response of equal length, server information, our first min(27, k) name octets
+-- what answers a field, by its role
 abbrev pub answerTo : (filter information : List ℕ) → Field → Role → List Content
-answerTo filter information f (FilterRequest offset) = content 0xF504 (take (f .size) (drop offset filter)) ∷ []
-answerTo filter information f Information = content 0xF505 information ∷ []
-answerTo filter information f DraftName = content 0xF5FF (take (f .size) draftName) ∷ []
-answerTo filter information f Unknown = []
+answerTo filter information f (FilterRequest offset) = content 0xF504 (take (f .size) (drop offset filter)) ∷ []  -- R-17, F-11
+answerTo filter information f Information = content 0xF505 information ∷ []  -- R-18, F-12
+answerTo filter information f DraftName = content 0xF5FF (take (f .size) draftName) ∷ []  -- R-19
+answerTo filter information f Unknown = []  -- F-16
 
--- the answers to fields of the request, in its order, where some stand before
+-- R-16: the answers to fields of the request, where some stand before
 unfoldable pub answersTo : (request filter information : List ℕ) (before fs : List Field) → List Content
 answersTo request filter information before [] = []
 answersTo request filter information before (f ∷ fs) =
     answerTo filter information f (roleOf request before f) ++ answersTo request filter information (before ++ (f ∷ [])) fs
 
--- if n octets are left, one padding field with zeros fills them
+-- R-20: what fills n octets that are left
 abbrev pub paddingOf : ℕ → List Content
 paddingOf n = cond (eqb n 0) [] (content 0xF501 (replicate (n - 4) 0) ∷ [])
 
@@ -102,23 +102,23 @@ sentFields g = answerFields (g .request) (g .filter) (g .information)
 unfoldable pub answerOctets : Given → List Record → List ℕ
 answerOctets g row = headerOctets (sentHeader g row) ++ chainOctets (sentFields g)
 
--- the output after an answer: past the octets written it stays as it was
+-- N-29: the output after an answer
 abbrev pub outputAfter : Given → List Record → (out : List ℕ) → List ℕ
 outputAfter g row out = answerOctets g row ++ drop (length (g .request)) out
 
--- the row after an answer: the record whose time is sent leaves; then the fresh cookie joins the end
+-- the row after an answer: R-10, then R-12 to R-14; R-7 where flag 0x2 is clear
 abbrev pub rowAfter : (asked : Header) (freshCookie n : ℕ) → List Record → List Record
 rowAfter asked freshCookie n row =
     cond (wantsInterleaved asked)
     (joined n freshCookie (cond (eqb (savedTime asked row) 0) row (without (asked .«server_cookie» .0) row)))
     row
 
--- the filter or the server information of wrong size, leap above 3, receive or estimated time 0
+-- 6 by N-11, N-12, N-7 and N-16
 abbrev pub wrongArguments : (filter information : List ℕ) (leap receive estimate : ℕ) → Bool
 wrongArguments filter information leap receive estimate =
     not (eqb (length filter) 512) || not (eqb (length information) 4) || ltb 3 leap || eqb receive 0 || eqb estimate 0
 
--- what the arguments and the request are refused by: 6, then 1 to 5 and 13
+-- what the arguments and the request are refused by: 6, then 1 to 5 and 13, so that 13 comes before 8 (W205-6)
 abbrev pub argumentsRefusal : (request filter information : List ℕ) (leap receive estimate : ℕ) → ℕ
 argumentsRefusal request filter information leap receive estimate =
     cond (wrongArguments filter information leap receive estimate) 6 (soundRefusal request 3)
@@ -127,15 +127,15 @@ argumentsRefusal request filter information leap receive estimate =
 abbrev pub firstRefusal : Given → ℕ
 firstRefusal g = argumentsRefusal (g .request) (g .filter) (g .information) (g .server .leap) (g .receive) (g .estimate)
 
--- 8: a fresh cookie is needed, and it is 0 or in the store at entry
+-- N-20 by R-8; by R-7 not where flag 0x2 is clear
 abbrev pub wrongFresh : (asked : Header) (freshCookie : ℕ) → List Record → Bool
 wrongFresh asked freshCookie row = wantsInterleaved asked && (eqb freshCookie 0 || held freshCookie row)
 
--- 11: the output is shorter than the answer
+-- N-23: the output is shorter than the answer
 abbrev pub shortOutput : Given → (out : List ℕ) → Bool
 shortOutput g out = ltb (length out) (length (g .request))
 
--- the refusals in the page's order: the store's 6, what the arguments and the request are refused by, 8, 11
+-- the refusals in the order of N-26: the store's 6, what the arguments and the request are refused by, 8, 11
 abbrev pub refusedAnswer : (wrong : Bool) (first : ℕ) (wrongCookie short : Bool) → ℕ
 refusedAnswer wrong first wrongCookie short =
     cond wrong 6
@@ -148,7 +148,7 @@ unfoldable pub answerRefusal : Given → (store out : List ℕ) → ℕ
 answerRefusal g store out =
     refusedAnswer (wrongStore store) (firstRefusal g) (wrongFresh (asking g) (g .freshCookie) (rowOf store)) (shortOutput g out)
 
--- the page's number and value for each case of the call's answer
+-- G-11: the number and value of each case of the call's answer
 abbrev pub numbersOf : Answered → ℕ × ℕ
 numbersOf (Written n) = (0, n)
 numbersOf (Refused n) = (n, 0)
@@ -163,6 +163,7 @@ pub record Outcome : Type 0 where
 abbrev pub outcome : Answered → (out store : List ℕ) → Outcome
 outcome r out store = record { refusal = numbersOf r .0; size = numbersOf r .1; out = out; store = store }
 
+-- a refusal by N-27 and N-28
 unfoldable pub answerOf : Given → (store out : List ℕ) → Outcome
 answerOf g store out =
     cond (eqb (answerRefusal g store out) 0)

@@ -1,4 +1,4 @@
--- The calls of document 01's responder, and all that each returns and leaves.
+-- The responder's calls, R-1 to R-20, and all that each returns and leaves.
 use mathlib.Core.List.{List, []}
 use Prim.Native.Nat.{ℕ}
 use Rattle.store_rules.specs.Row.{cleared, reporting}

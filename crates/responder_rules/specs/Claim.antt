@@ -1,5 +1,5 @@
--- What document 01 says of calls to which no refusal applies. Each claim is about any responder, `EveryAnswerFor step` and so on, and made
--- of ours, `EveryAnswer`; specs/Idle.antt has responders of which they are false.
+-- What holds of calls to which no refusal applies: of answers, D-4, and of reports, R-3. Each claim is about any responder,
+-- `EveryAnswerFor step` and so on, and made of ours, `EveryAnswer`; specs/Idle.antt has responders of which they are false.
 use mathlib.Core.Path.{_≡_}
 use mathlib.Core.Bool.{true, false}
 use mathlib.Core.List.{List, []}
@@ -22,7 +22,7 @@ use Rattle.responder_rules.specs.Call.{Call, clear, report, answer, Resp
 
 -- ---- the arguments
 
--- none of refusals 1 to 5 and 13 applies to the request, and the filter, the server information and the leap are not refused by 6
+-- the request is sound (F-8, W205-3), and the filter, the server information and the leap are not refused by N-11, N-12 and N-7
 pub record Accepted (g : Given) : Type 0 where
   pub request : soundRefusal (g .request) 3 ≡ 0
   pub filter : length (g .filter) ≡ 512
@@ -55,32 +55,34 @@ Typed (answer g out) = InRange g []
 
 -- what is sent in answer to a request, where the store holds a row
 pub record AnswerClaim (g : Given) (row : List Record) (sent : List ℕ) : Type 0 where
-  -- an answer is as long as its request
+  -- R-20: an answer is as long as its request
   pub long : length sent ≡ length (g .request)
   -- it is sound where a response is wanted
   pub sound : soundRefusal sent 4 ≡ 0
-  -- its header reads as the values that went in
+  -- R-5 to R-12: its header reads as the values that went in
   pub header : headerOf sent ≡ sentHeader g row
-  -- its fields are those that the page lists, each right after the one before it, and no others
+  -- its fields are those of R-16 to R-20, each right after the one before it, and no others
   pub fields : fieldsOf sent ≡ placed 48 (sentFields g)
-  -- their types and data are those that the page lists
+  -- their types and data are those of R-16 to R-20
   pub contents : contentsOf sent (fieldsOf sent) ≡ sentFields g
-  -- document 02, W-205: none of them is a MAC
+  -- W205-9: none of them is a MAC
   pub no-mac : firstOf 0xF502 (fieldsOf sent) ≡ Absent
-  -- a filter response is as long as the filter request that it answers
+  -- R-17: a filter response is as long as the filter request that it answers
   pub responses : (before : List Field) (f : Field) (offset : ℕ) → roleOf (g .request) before f ≡ FilterRequest offset
       → length (take (f .size) (drop offset (g .filter))) ≡ f .size
 
 -- none of the refusals that concern an answer applies
 pub record Answerable (g : Given) (store out : List ℕ) : Type 0 where
-  -- 6, and 1 to 5 and 13
+  -- N-10, N-14
   pub right : wrongStore store ≡ false
+  -- N-1 to N-5, N-7, N-11, N-12, W205-4
   pub accepted : Accepted g
+  -- N-16
   pub receive : g .receive ≡ 0 → ⊥
   pub estimate : g .estimate ≡ 0 → ⊥
-  -- 8: where flag 0x2 is set, the fresh cookie is not 0 and not in the store
+  -- R-8
   pub fresh : wantsInterleaved (asking g) ≡ true → (g .freshCookie ≡ 0 → ⊥) × (held (g .freshCookie) (rowOf store) ≡ false)
-  -- 11
+  -- N-23
   pub room : length (g .request) ≤ length out
 
 -- all that an answer then returns and leaves
@@ -89,12 +91,12 @@ pub record AnswerSent (g : Given) (store out : List ℕ) (w : Outcome) : Type 0 
   pub size : w .size ≡ length (g .request)
   -- the octets that are written
   pub sent : AnswerClaim g (rowOf store) (take (w .size) (w .out))
-  -- output octets past those written stay as they were
+  -- N-29
   pub rest : drop (w .size) (w .out) ≡ drop (w .size) out
-  -- the store holds the row after the answer
+  -- R-7, R-10, R-12 to R-14: the store holds the row after the answer
   pub stored : w .store ≡ storeOctets (sizeOf store) (rowAfter (asking g) (g .freshCookie) (sizeOf store) (rowOf store))
 
--- a request is answered exactly when no refusal applies
+-- D-4: a request is answered exactly when no refusal applies
 pub record AnswerExact (step : Responder) (g : Given) (store out : List ℕ) : Type 0 where
   pub only-answerable : step (answer g out) store .refusal ≡ 0 → Answerable g store out
   pub all-answerable : Answerable g store out → AnswerSent g store out (step (answer g out) store)
@@ -110,14 +112,15 @@ EveryAnswer = EveryAnswerFor stepStore
 
 -- none of the refusals that concern a report applies
 pub record Reportable (c t : ℕ) (store : List ℕ) : Type 0 where
-  -- 6
+  -- N-10, N-14
   pub right : wrongStore store ≡ false
+  -- N-16
   pub time : t ≡ 0 → ⊥
-  -- 12: the cookie is in the store, and its time is not reported
+  -- N-24
   pub in-row : held c (rowOf store) ≡ true
   pub unreported : timeOf c (rowOf store) ≡ 0
 
--- a time is taken exactly when no refusal applies, and then its cookie has it
+-- R-3: a time is taken exactly when no refusal applies, and then its cookie has it
 pub record ReportExact (step : Responder) (c t : ℕ) (store : List ℕ) : Type 0 where
   pub only-reportable : step (report c t) store .refusal ≡ 0 → Reportable c t store
   pub all-reportable : Reportable c t store

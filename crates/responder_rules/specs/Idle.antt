@@ -1,4 +1,4 @@
--- Idle responders, and that the claims reject them: the claim that is named is false of each.
+-- Idle responders, and that the claims reject them, D-5: the claim that is named is false of each.
 use mathlib.Core.Path.{_≡_}
 use mathlib.Core.Bool.{true, false, cond}
 use mathlib.Core.List.{List, []}
@@ -38,7 +38,7 @@ WritesNothing step = (g : Given) (out s : List ℕ) → step (answer g out) s .o
 abbrev pub StoresNothing : Responder → Type 0
 StoresNothing step = (g : Given) (out s : List ℕ) → step (answer g out) s .store ≡ s
 
--- ---- answering every interleaved request from one saved time
+-- ---- answering every interleaved request from one saved time, E-5
 
 -- ours, but an interleaved answer leaves the store, so that the record stays in the row
 abbrev pub answersFromOne : Responder

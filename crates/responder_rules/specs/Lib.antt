@@ -1,4 +1,4 @@
--- The responder of document 01.
+-- The responder, R-1 to R-20.
 pub mod Answer
 pub mod Call
 pub mod Claim

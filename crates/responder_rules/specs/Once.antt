@@ -1,4 +1,4 @@
--- Document 01, the once-only rule: over every list of clears, reports and answers on a cleared store, a saved time answers at most once.
+-- The once-only rule, R-15, over every list of clears, reports and answers on a cleared store.
 use mathlib.Core.Path.{_≡_}
 use mathlib.Core.Bool.{Bool, true, false, cond, _&&_}
 use mathlib.Core.List.{List, [], _∷_}
@@ -67,7 +67,7 @@ eachSentOnce unsent (other ∷ es) = eachSentOnce unsent es
 
 -- ---- the claim
 
--- a store of n records, to which the store part of refusal 6 does not apply
+-- a store of n records, to which neither N-10 nor N-14 applies
 pub record Right (n : ℕ) (s : List ℕ) : Type 0 where
   pub right : wrongStore s ≡ false
   pub size : sizeOf s ≡ n
@@ -76,11 +76,11 @@ pub record Right (n : ℕ) (s : List ℕ) : Type 0 where
   pub distinct : (c : ℕ) → held c (without c (rowOf s)) ≡ false
 
 pub record OnceClaim (step : Responder) (s : List ℕ) (cs : List Call) : Type 0 where
-  -- each reported time is sent at most once, and only in answer to a request with the cookie that it was reported for
+  -- R-15, against E-5
   pub sent-once : eachSentOnce [] (observations step cs (clearedBy step s)) ≡ true
   -- the calls leave a right store, of the size that it had
   pub store-right : Right (sizeOf s) (storeAfterCalls step cs (clearedBy step s))
-  -- after an interleaved answer the cookie of its request is not in the store
+  -- R-10: after an interleaved answer the cookie of its request is not in the store
   pub record-left : (g : Given) (out : List ℕ) → InRange g [] → let w = step (answer g out) (storeAfterCalls step cs (clearedBy step s)) in
       interleaved (w .refusal) (w .out) ≡ true → held (askedCookie g) (rowOf (w .store)) ≡ false
 

@@ -1,5 +1,4 @@
--- A refusal returns its number and zeros, and changes nothing: any call with any arguments, on any octets lent as store and output, of any
--- size.
+-- Refusals of the responder, N-27 and N-28: of any call with any arguments, on any octets lent as store and output, of any size (D-1).
 use mathlib.Core.Path.{_≡_}
 use mathlib.Core.Bool.{true}
 use mathlib.Core.List.{List, [], _∷_}
@@ -8,7 +7,7 @@ use Rattle.octets.specs.Among.{among}
 use Rattle.responder_rules.specs.Answer.{Outcome}
 use Rattle.responder_rules.specs.Call.{Call, clear, report, answer, lent, Responder, stepStore}
 
--- the refusals that concern a call, in the page's order
+-- the refusals that concern a call by N-1 to N-24 and W205-4, in the order of N-26
 abbrev pub refusalsOf : Call → List ℕ
 refusalsOf clear = 6 ∷ []
 refusalsOf (report c t) = 6 ∷ 12 ∷ []

@@ -1,5 +1,4 @@
--- Document 01, "Refusal numbers": a refusal returns its number and zeros, and changes nothing. For any call with any arguments, on any octets
--- of any size.
+-- Refusals of these calls, N-27 and N-28: of any call with any arguments, on any octets of any size (D-1).
 use mathlib.Core.Path.{_≡_}
 use mathlib.Core.Bool.{true}
 use mathlib.Core.List.{List, [], _∷_}
@@ -7,7 +6,7 @@ use Prim.Native.Nat.{ℕ}
 use Rattle.octets.specs.Among.{among}
 use Rattle.single_rules.specs.Single.{Call, headerRead, headerWrite, sound, filterAdd, filterUnion, filterWeight, lent, Answer, plainAnswer, step}
 
--- the refusals that concern a call, in the page's order
+-- the refusals that concern a call by N-1 to N-24 and W205-4, in the order of N-26
 abbrev pub refusalsOf : Call → List ℕ
 refusalsOf (headerRead datagram wanted) = 1 ∷ 2 ∷ 3 ∷ []
 refusalsOf (headerWrite fields out) = 6 ∷ 11 ∷ []
@@ -17,9 +16,9 @@ refusalsOf (filterUnion into other) = 6 ∷ []
 refusalsOf (filterWeight filter) = 6 ∷ []
 
 pub record RefusedCall (c : Call) (w : Answer) : Type 0 where
-  -- nothing but the number is answered, and the octets lent are as they were
+  -- nothing but the number is answered, N-27, and the octets lent are as they were, N-28
   pub unchanged : w ≡ plainAnswer (w .refusal) (lent c)
-  -- the number is one of the page's that concern the call
+  -- the number is one of those that concern the call
   pub number : among (w .refusal) (refusalsOf c) ≡ true
 
 abbrev pub Refusals : Type 0

@@ -20,11 +20,11 @@ use Rattle.state.specs.declared.head.Change.{Change}
 abbrev pub change : Reply → Head → Filling → Change
 change a h f = record { reply = a; head = h; filling = f }
 
--- a refusal changes nothing
+-- N-27, N-28
 abbrev pub refuse : ℕ → Head → Change
 refuse n h = change (plainReply n) h Keep
 
--- the filter after a change of numbers h: the chunk's octets go to the offset of the request
+-- the filter after a change of numbers h; a chunk goes where C-18 says
 abbrev pub filled : Filling → Head → List ℕ → List ℕ → List ℕ
 filled Keep h datagram f = f
 filled Clear h datagram f = replicate 512 0
@@ -38,7 +38,7 @@ takenAfter taken c = cond (eqb taken 512) 512 (taken + c)
 unfoldable pub applied : Change → Head → (datagram filter : List ℕ) → Reply × (Head × List ℕ)
 applied d h datagram f = (d .reply, (d .head, filled (d .filling) h datagram f))
 
--- an answer, and what is left; a refusal leaves what was there
+-- an answer, and what is left; a refusal leaves what was there (N-28)
 abbrev pub unlessRefused : {A : Type 0} → Reply → (done kept : A) → Reply × A
 unlessRefused a done kept = (a, cond (eqb (a .refusal) 0) done kept)
 
@@ -48,7 +48,7 @@ onHead e h datagram f =
     unlessRefused (placeDo e datagram (placeIn h f) .0)
     (placeHead (placeDo e datagram (placeIn h f) .1), placeFilter (placeDo e datagram (placeIn h f) .1)) (h, f)
 
--- 6 for a number out of its range
+-- 6 by N-13
 unfoldable pub changed : Event → Head → (datagram filter : List ℕ) → Reply × (Head × List ℕ)
 changed e h datagram f = cond (inRange h) (onHead e h datagram f) (plainReply 6, (h, f))
 

@@ -1,4 +1,4 @@
--- A store's octets and its row, both ways.
+-- A store's octets and its row, R-2, both ways.
 use mathlib.Core.Path.{_≡_}
 use mathlib.Core.Bool.{false}
 use mathlib.Core.List.{List, [], _∷_}
@@ -19,7 +19,7 @@ abbrev pub SoundRow : List Record → Type 0
 SoundRow [] = Unit {0}
 SoundRow (r ∷ row) = SoundRecord r row × SoundRow row
 
--- a store to which the store part of refusal 6 does not apply is the octets of its row, which is sound
+-- a store to which neither N-10 nor N-14 applies is the octets of its row, which is sound
 abbrev pub StoreRead : Type 0
 StoreRead = (s : List ℕ) → Octets s → wrongStore s ≡ false → (storeOctets (sizeOf s) (rowOf s) ≡ s) × SoundRow (rowOf s)
 

@@ -1,4 +1,4 @@
--- Document 01, "Responder and store": the row of saved timestamps, its octets, and what clearing and a report do to it.
+-- The store, R-1 to R-3: the row of saved timestamps, its octets, and what clearing and a report do to it.
 use mathlib.Core.Bool.{Bool, true, false, cond, not, _&&_, _||_}
 use mathlib.Core.List.{List, [], _∷_, _++_}
 use Prim.Native.Nat.{ℕ, zero, suc, _+_, _-_, _*_, _/_, _%_}
@@ -6,7 +6,7 @@ use lib.Dec.{eqb, ltb}
 use lib.ListN.{length, drop, replicate}
 use Rattle.octets.specs.Number.{num, octets}
 
--- a record: a server cookie and a transmit time, 0 until reported
+-- R-2: a record
 pub record Record : Type 0 where
   pub cookie : ℕ
   pub time : ℕ
@@ -21,17 +21,17 @@ unfoldable pub timeOf : ℕ → List Record → ℕ
 timeOf c [] = 0
 timeOf c (r ∷ row) = cond (eqb (r .cookie) c) (r .time) (timeOf c row)
 
--- a report gives a stored cookie its time
+-- R-3: the row after a report
 unfoldable pub withTime : ℕ → ℕ → List Record → List Record
 withTime c t [] = []
 withTime c t (r ∷ row) = cond (eqb (r .cookie) c) (record { cookie = c; time = t } ∷ row) (r ∷ withTime c t row)
 
--- the record of a cookie leaves the row
+-- R-10: the record of a cookie leaves the row
 unfoldable pub without : ℕ → List Record → List Record
 without c [] = []
 without c (r ∷ row) = cond (eqb (r .cookie) c) row (r ∷ without c row)
 
--- a fresh cookie joins the end of a row of at most n; if the row is full, the oldest leaves first
+-- R-12, R-13: a fresh cookie joins a row of at most n
 abbrev pub joined : ℕ → ℕ → List Record → List Record
 joined n c row = cond (ltb (length row) n) row (drop 1 row) ++ (record { cookie = c; time = 0 } ∷ [])
 
@@ -43,7 +43,7 @@ unfoldable pub rowOctets : List Record → List ℕ
 rowOctets [] = []
 rowOctets (r ∷ row) = recordOctets r ++ rowOctets row
 
--- a store of n records: the used ones first, oldest first; an unused one is zeros
+-- R-2: a store of n records; an unused one is zeros
 unfoldable pub storeOctets : ℕ → List Record → List ℕ
 storeOctets n row = rowOctets row ++ replicate (16 * (n - length row)) 0
 
@@ -70,7 +70,7 @@ unfoldable pub allUnused : List Record → Bool
 allUnused [] = true
 allUnused (r ∷ rs) = unused r && allUnused rs
 
--- the row: the records before the first unused one
+-- R-2: the row, the records before the first unused one
 unfoldable pub usedOf : List Record → List Record
 usedOf [] = []
 usedOf (r ∷ rs) = cond (unused r) [] (r ∷ usedOf rs)
@@ -78,30 +78,31 @@ usedOf (r ∷ rs) = cond (unused r) [] (r ∷ usedOf rs)
 abbrev pub rowOf : List ℕ → List Record
 rowOf s = usedOf (recordsOf s)
 
--- no gap, no used cookie 0, none held twice
+-- N-14 does not apply
 unfoldable pub soundRecords : List Record → Bool
 soundRecords [] = true
 soundRecords (r ∷ rs) = cond (unused r) (allUnused rs) (not (eqb (r .cookie) 0) && not (held (r .cookie) rs) && soundRecords rs)
 
--- a row is 1 to 64 records
+-- N-10, by R-1
 abbrev pub wrongSize : List ℕ → Bool
 wrongSize s = ltb (length s) 16 || ltb 1024 (length s) || not (eqb (length s % 16) 0)
 
--- the store part of refusal 6: the size, and the records
+-- the store part of refusal 6: the size, N-10, and the records, N-14
 abbrev pub wrongRow : (size : Bool) → List Record → Bool
 wrongRow size rs = size || not (soundRecords rs)
 
 unfoldable pub wrongStore : List ℕ → Bool
 wrongStore s = wrongRow (wrongSize s) (recordsOf s)
 
--- clearing checks the size only: the refusal, and the store after it, whatever holds the row
+-- N-15: the refusal of clearing, and the store after it, whatever holds the row
 abbrev pub clearingTo : {S : Type 0} → (size : Bool) (before after : S) → ℕ × S
 clearingTo size before after = cond size (6, before) (0, after)
 
+-- R-1
 unfoldable pub cleared : List ℕ → ℕ × List ℕ
 cleared s = clearingTo (wrongSize s) s (storeOctets (sizeOf s) [])
 
--- a report of a cookie's time: 6 for the store or a time 0; 12 where the cookie is not in the row or has its time
+-- the refusal of a report: 6 for the store or by N-16, then N-24
 abbrev pub refusedReport : (wrong : Bool) (row : List Record) (c t : ℕ) → ℕ
 refusedReport wrong row c t =
     cond (wrong || eqb t 0) 6
@@ -111,9 +112,10 @@ refusedReport wrong row c t =
 abbrev pub reportRefusal : List ℕ → ℕ → ℕ → ℕ
 reportRefusal s c t = refusedReport (wrongStore s) (rowOf s) c t
 
--- a refusal leaves what was there, whatever holds the row
+-- N-28: a refusal leaves what was there, whatever holds the row
 abbrev pub keptIfRefused : {S : Type 0} → (refusal : ℕ) (before after : S) → ℕ × S
 keptIfRefused refusal before after = cond (eqb refusal 0) (0, after) (refusal, before)
 
+-- R-3
 unfoldable pub reporting : List ℕ → ℕ → ℕ → ℕ × List ℕ
 reporting s c t = keptIfRefused (reportRefusal s c t) s (storeOctets (sizeOf s) (withTime c t (rowOf s)))

@@ -1,5 +1,5 @@
--- Document 01, "Cases M1 to M12", with M10 as document 02 changes it, and the cases of W-206: a row is a case's number, what the
--- definitions give, and what the pages say.
+-- The worked cases, M-1 to M-12, and those of half an era, W206-3 and W206-9: a row is a case's number, what the definitions give, and
+-- what the rule says.
 use mathlib.Core.Path.{_≡_}
 use mathlib.Core.Bool.{Bool, true, false, cond, _&&_}
 use mathlib.Core.List.{List, [], _∷_, _++_}
@@ -24,7 +24,7 @@ pub record Row : Type 0 where
 abbrev pub row : ℕ → List ℤ → List ℤ → Row
 row n g s = record { case = n; gives = g; says = s }
 
--- of the page's case M n
+-- of case M-n
 abbrev pub M : ℕ → List ℤ → List ℤ → Row
 M = row
 
@@ -47,7 +47,7 @@ bare l m = record {
   transmit = 0;
 }
 
--- octet 0 of a header with this leap and mode
+-- M-1: octet 0 of a header with this leap and mode
 abbrev pub firstOctet : ℕ → ℕ → ℤ
 firstOctet l m = pos (getD (headerOctets (bare l m)) 0 0)
 
@@ -58,7 +58,7 @@ request = headerOctets (bare 0 3)
 abbrev pub padding : ℕ → List ℕ
 padding n = octets 2 0xF501 ++ octets 2 n
 
--- the refusal of a datagram where a request is wanted
+-- M-2 to M-4: the refusal of a datagram where a request is wanted
 abbrev pub refusalOf : List ℕ → ℤ
 refusalOf s = pos (soundRefusal s 3)
 
@@ -70,14 +70,15 @@ MeasurementFunction = (t1 t2 t3 t4 : ℕ) → Measurement
 abbrev pub WeightFunction : Type 0
 WeightFunction = List ℕ → ℕ
 
--- octet k of the filter of an ID alone, and that filter's weight
+-- M-5 to M-7: octet k of the filter of an ID alone, and that filter's weight
 abbrev pub filtered : WeightFunction → List ℕ → ℕ → List ℤ
 filtered w id k = pos (getD (ofId id) k 0) ∷ pos (w (ofId id)) ∷ []
 
+-- M-8 to M-11: judgement, offset and delay
 abbrev pub measured : MeasurementFunction → (t1 t2 t3 t4 : ℕ) → List ℤ
 measured m t1 t2 t3 t4 = pos (m t1 t2 t3 t4 .judgement) ∷ m t1 t2 t3 t4 .offset ∷ pos (m t1 t2 t3 t4 .delay) ∷ []
 
--- 1 for a good filter request, 0 for an unknown field
+-- M-12: 1 for a good filter request, 0 for an unknown field
 abbrev pub good : ℕ → ℕ → ℤ
 good at n = pos (cond (goodRequest at n) 1 0)
 
@@ -99,7 +100,7 @@ tableFor m w =
     ∷ M 7 (filtered w (0x00 ∷ 0x10 ∷ 0x02 ∷ replicate 12 0) 0) (pos 0x07 ∷ pos 3 ∷ [])
     ∷ M 8 (measured m 0xFFFFFFFF00000000 0x80000000 0x80000000 0x100000000) (pos 0 ∷ pos 2147483648 ∷ pos 8589934592 ∷ [])
     ∷ M 9 (measured m 10 10 10 11) (pos 0 ∷ negℤ (pos 1) ∷ pos 1 ∷ [])
-    ∷ M 10 (measured m 1 (2 ^ 63 + 1) (2 ^ 63 + 1) 1) (pos 5 ∷ pos 0 ∷ pos 0 ∷ [])
+    ∷ M 10 (measured m 1 (2 ^ 63 + 1) (2 ^ 63 + 1) 1) (pos 5 ∷ pos 0 ∷ pos 0 ∷ [])  -- W206-8
     ∷ M 11 (measured m 1 (2 ^ 63) (2 ^ 63) 1) (pos 0 ∷ pos (2 ^ 63 - 1) ∷ pos 0 ∷ [])
     ∷ M 12 (good 508 4 ∷ good 508 8 ∷ []) (pos 1 ∷ pos 0 ∷ [])
     ∷ []
@@ -116,27 +117,27 @@ allSame [] (y ∷ ys) = false
 allSame (x ∷ xs) [] = false
 allSame (x ∷ xs) (y ∷ ys) = same x y && allSame xs ys
 
--- how many values there are in each of the cases M1 to M12; in M8 to M11 they are judgement, offset and delay
+-- how many values there are in each of the cases M-1 to M-12
 abbrev pub valuesSaid : List ℕ
 valuesSaid = 3 ∷ 5 ∷ 1 ∷ 1 ∷ 2 ∷ 2 ∷ 2 ∷ 3 ∷ 3 ∷ 3 ∷ 3 ∷ 2 ∷ []
 
 -- the rows are the cases from n on, none missing and none out of order, each with as many values, and in each the definitions give what
--- the page says
+-- the rule says
 unfoldable pub agree : ℕ → List ℕ → List Row → Bool
 agree n [] [] = true
 agree n [] (r ∷ rs) = false
 agree n (k ∷ ks) [] = false
 agree n (k ∷ ks) (r ∷ rs) = eqb (r .case) n && eqb (length (r .says)) k && allSame (r .gives) (r .says) && agree (suc n) ks rs
 
--- the claim, of any measurement and weight, and of ours
+-- P-12: the claim, of any measurement and weight, and of ours
 abbrev pub WorkedFor : MeasurementFunction → WeightFunction → Type 0
 WorkedFor m w = agree 1 valuesSaid (tableFor m w) ≡ true
 
 abbrev pub Worked : Type 0
 Worked = WorkedFor measurement weight
 
--- Document 02, W-206. Row 1: T2-T1, T3-T4, T4-T1 and T3-T2, each alone half an era. Row 2: the smallest offset, of two differences of
--- -(2^63 - 1) (M11 has the largest), and the largest delay, of 2^63 - 1 and -(2^63 - 1), both ways
+-- Row 1, W206-3: T2-T1, T3-T4, T4-T1 and T3-T2, each alone half an era. Row 2, W206-9: the smallest offset, of two differences of
+-- -(2^63 - 1) (M-11 has the largest), and the largest delay, of 2^63 - 1 and -(2^63 - 1), both ways
 unfoldable pub halfEraTable : List Row
 halfEraTable =
     row 1 (
