@@ -1,4 +1,4 @@
-// The fields of an answer: one pass over those of the request, then the padding.
+// The fields of an answer, R-16 to R-20: one pass over those of the request, then the padding.
 use chain::DRAFT_NAME;
 use chain::cursor::Cursor;
 use chain::cursor::Field;
@@ -17,7 +17,7 @@ ghost use Rattle.responder_rules.specs.Answer.{answerTo, paddingOf};
 ghost use Rattle.answer_fields.specs.Fields.{fieldsWritten};
 ghost use Rattle.answer_fields.specs.Pass.{answersWith};
 
-// How many octets of our name answer a name of k.
+// R-19: how many octets of our name answer a name of k.
 fn name_octets(k: usize) -> usize
     ensures { λ r. ⌜ r ≡ min k 27 ⌝ }
 {
@@ -78,7 +78,7 @@ fn answers(request: &[u8], filter: &[u8], information: &[u8], out: &mut [u8]) ->
     at
 }
 
-// Fills what is left with one padding field.
+// R-20: fills what is left.
 fn pad(out: &mut [u8], at: usize)
     requires { ⌜ (at ≤ length (now out)) × (length (now out) ≤ 1280) × ((length (now out) - at) % 4 ≡ 0) ⌝ }
     ensures { λ _. ⌜ now (out .exit) ≡ take at (now (out .entry)) ++ chainOctets (paddingOf (length (now (out .entry)) - at)) ⌝ }

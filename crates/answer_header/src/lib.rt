@@ -1,4 +1,4 @@
-// The header of an answer.
+// The header of an answer, R-5 to R-12.
 use header::Header;
 use header::ServerCookie;
 use responder_rules::Server;
@@ -8,14 +8,14 @@ ghost use Prim.Native.Nat.{_+_, _-_, _*_, _/_, _%_};
 ghost use lib.Dec.{eqb};
 ghost use Rattle.responder_rules.specs.Answer.{wantsInterleaved, answerHeader};
 
-// Flag 0x2 of a header: a request that wants an interleaved answer.
+// H-8: a request that wants an interleaved answer.
 pub fn wants_interleaved(asked: Header) -> bool
     ensures { λ r. ⌜ r ≡ wantsInterleaved asked ⌝ }
 {
     asked.flags / 2 % 2 == 1
 }
 
-// The server cookie that an answer carries: the fresh one, where the request wants an interleaved answer.
+// R-7, R-12: the server cookie that an answer carries.
 fn cookie_of(interleaved: bool, fresh_cookie: ServerCookie) -> ServerCookie
     ensures { λ r. ⌜ r .0 ≡ cond interleaved («fresh_cookie» .0) 0 ⌝ }
 {
@@ -26,14 +26,14 @@ fn cookie_of(interleaved: bool, fresh_cookie: ServerCookie) -> ServerCookie
     }
 }
 
-// The transmit time: the estimate, where none was saved.
+// R-9, R-11: the transmit timestamp.
 fn transmit_of(none: bool, estimate: u64, saved: u64) -> u64
     ensures { λ r. ⌜ r ≡ cond none estimate saved ⌝ }
 {
     if none { estimate } else { saved }
 }
 
-// The server's flags without 0x2, which is set where a saved time is sent.
+// R-6: the server's flags without 0x2, which is set where a saved time is sent (R-9).
 fn flags_of(flags: u16, saved: u64) -> u16
     ensures { λ r. ⌜ r ≡ flags - flags / 2 % 2 * 2 + cond (eqb saved 0) 0 2 ⌝ }
 {
@@ -41,7 +41,7 @@ fn flags_of(flags: u16, saved: u64) -> u16
     if saved == 0 { kept } else { kept + 2 }
 }
 
-// The header of an answer. A saved time of 0 is none: then the answer is basic.
+// R-5. A saved time of 0 is none: then the answer is basic.
 pub fn header_of(
     server: Server,
     asked: Header,

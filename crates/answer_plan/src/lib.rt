@@ -61,7 +61,7 @@ fn keeping(wants: bool, n: usize, at: usize, time: u64) -> Plan
     unchanged(0, n)
 }
 
-// The refusals in the page's order: the records' 6, what the arguments and the request are refused by, 8, 11.
+// The refusals in the order of N-26: the records' 6, what the arguments and the request are refused by, 8, 11.
 fn refused(wrong: bool, first: u8, wrong_cookie: bool, short: bool) -> u8
     ensures { λ r. ⌜ r ≡ refusedAnswer wrong first «wrong_cookie» short ⌝ }
 {

@@ -1,4 +1,4 @@
-// The structs of the C interface. C has no enums that hold values, so each case of a core answer becomes the numbers that document 01 gives it.
+// The structs of the C interface. C has no enums that hold values, so each case of a core answer becomes its numbers (G-11).
 use client::Mode;
 use client::Polled;
 use client::Published;
@@ -11,14 +11,14 @@ ghost use Rattle.client.specs.Answers.{isInterleaved, polledAnswer, publishedAn
 ghost use Rattle.responder_rules.specs.Answer.{outcome};
 ghost use Rattle.c_structs.specs.Numbers.{writtenNumbers, receivedNumbers, verdictNumbers, outcomeNumbers, weightNumbers, measurementNumbers};
 
-// How many octets were written; 0 in a refusal.
+// How many octets were written; 0 in a refusal (N-27).
 #[repr(C)]
 pub struct Written {
     pub refusal: u8,
     pub length: u16,
 }
 
-// A response's judgement 0 to 5, its chunk's outcome 1 to 3, and its measurement.
+// A response's judgement (C-23 to C-26, W206-5), its chunk's outcome (C-20), and its measurement.
 #[repr(C)]
 pub struct Received {
     pub refusal: u8,
@@ -28,7 +28,7 @@ pub struct Received {
     pub delay: u64,
 }
 
-// 1 incomplete, 2 loop, 3 clear; 0 in a refusal.
+// B-7; 0 in a refusal.
 #[repr(C)]
 pub struct Verdict {
     pub refusal: u8,
@@ -41,7 +41,7 @@ pub struct Weight {
     pub weight: u16,
 }
 
-// Judgement 0 with offset and delay, or 5 and zeros.
+// Judgement 0 with offset and delay, or 5 and zeros (W206-7).
 #[repr(C)]
 pub struct Measurement {
     pub judgement: u8,

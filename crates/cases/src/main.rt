@@ -1,4 +1,4 @@
-// Reads calls, one a line, from the file that its argument names or from standard input, and prints a result line for each:
+// S-5: reads calls, one a line, from the file that its argument names or from standard input, and prints a result line for each:
 // see docs/CASES.md.
 mod calls;
 mod input;

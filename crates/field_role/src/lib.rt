@@ -12,11 +12,11 @@ pub struct Met {
 }
 
 pub enum Role {
-    // A good filter request, with its offset; the field's data length is the number of octets asked.
+    // A good filter request, F-14, with its offset; the field's data length is the number of octets asked.
     FilterRequest(u16),
     Information,
     DraftName,
-    // Any other field: it is skipped.
+    // F-16 to F-19: any other field.
     Unknown,
 }
 

@@ -1,4 +1,4 @@
-// Octets read as words of 64 bits. A word's first octet is its lowest.
+// Octets read as words of 64 bits, W203-1. A word's first octet is its lowest.
 use octets::part;
 ghost use mathlib.Core.Path.{_≡_};
 ghost use Prim.Native.Nat.{_+_, _*_, _≤_};

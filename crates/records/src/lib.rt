@@ -1,4 +1,4 @@
-// The responder's saved timestamps as a lent slice of records: a server cookie and its transmit time.
+// The responder's saved timestamps, R-1 to R-3, as a lent slice of records, G-9.
 mod value;
 
 use header::ServerCookie;
@@ -6,7 +6,7 @@ use value::Seen;
 ghost use mathlib.Core.Path.{_≡_};
 ghost use Rattle.records.specs.Records.{recordsIn, placeFrom, timeAt, wrongRecords, clearRecords, reportRecords, leaveRecords, joinRecords};
 
-// An unused record has cookie 0 and time 0; a used one has time 0 until it is reported.
+// R-2: an unused record has cookie 0 and time 0; a used one has time 0 until it is reported.
 pub struct Record {
     pub cookie: ServerCookie,
     pub time: u64,
@@ -42,7 +42,7 @@ pub fn time(records: &[Record], at: usize) -> u64
     0
 }
 
-// The store part of refusal 6: the number of records, a gap, a used cookie 0, or a cookie held twice.
+// The store part of refusal 6: N-10 and N-14.
 pub fn wrong(records: &[Record]) -> bool
     ensures { λ r. ⌜ r ≡ wrongRecords (recordsIn (now (records .entry))) ⌝ }
 {
@@ -64,7 +64,7 @@ pub fn wrong(records: &[Record]) -> bool
     seen.wrong
 }
 
-// Makes every record unused.
+// R-1: makes every record unused.
 pub fn clear(records: &mut [Record]) -> u8
     ensures { λ r. ⌜ (r, recordsIn (now (records .exit))) ≡ clearRecords (recordsIn (now (records .entry))) ⌝ }
 {
@@ -80,7 +80,7 @@ pub fn clear(records: &mut [Record]) -> u8
     0
 }
 
-// Gives a stored cookie its time, once.
+// R-3.
 pub fn report(records: &mut [Record], cookie: ServerCookie, time: u64) -> u8
     ensures { λ r. ⌜ (r, recordsIn (now (records .exit))) ≡ reportRecords (recordsIn (now (records .entry))) (cookie .0) time ⌝ }
 {
@@ -94,7 +94,7 @@ pub fn report(records: &mut [Record], cookie: ServerCookie, time: u64) -> u8
     value::absent(is_wrong, time)
 }
 
-// The record at a place leaves: from the end on, each later one goes to the place before its own.
+// R-10: the record at a place leaves: from the end on, each later one goes to the place before its own.
 pub fn leave(records: &mut [Record], at: usize)
     ensures { λ _. ⌜ recordsIn (now (records .exit)) ≡ leaveRecords (recordsIn (now (records .entry))) at ⌝ }
 {
@@ -108,7 +108,7 @@ pub fn leave(records: &mut [Record], at: usize)
     }
 }
 
-// A cookie joins the end of the row; where that is full, the oldest leaves.
+// R-12, R-13: a cookie joins the row.
 pub fn join(records: &mut [Record], cookie: ServerCookie)
     ensures { λ _. ⌜ recordsIn (now (records .exit)) ≡ joinRecords (recordsIn (now (records .entry))) (cookie .0) ⌝ }
 {

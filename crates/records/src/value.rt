@@ -5,7 +5,7 @@ ghost use mathlib.Core.Path.{_≡_};
 ghost use Rattle.records.specs.Records.{wrongCount};
 ghost use Rattle.records.specs.Value.{seenAfter, reportedOne, absentRefusal, joinPlaceFor};
 
-// A row is 1 to 64 records.
+// N-10, by R-1.
 pub(crate) fn wrong_count(n: usize) -> bool
     ensures { λ r. ⌜ r ≡ wrongCount n ⌝ }
 {

@@ -1,4 +1,4 @@
-// The answer to a request, with the saved timestamps of interleaved mode in a lent slice of records.
+// The answer to a request, R-4 to R-20, with the saved timestamps of interleaved mode in a lent slice of records, G-9.
 mod datagram;
 
 use answer_plan::AnswerStep;
@@ -46,8 +46,8 @@ pub fn answer_step(
     plan.step
 }
 
-// Answers a request: the answer goes to the start of `out` and is as long as the request. `fresh_cookie` is looked at only where the request wants an
-// interleaved answer.
+// Answers a request: the answer goes to the start of `out` and is as long as the request (R-20). `fresh_cookie` is looked at only where the request
+// wants an interleaved answer (R-7, R-8).
 pub fn answer(
     records: &mut [Record],
     request: &[u8],

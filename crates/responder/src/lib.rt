@@ -1,4 +1,4 @@
-// The responder: the answer to a request, with the saved timestamps of interleaved mode.
+// The responder: the answer to a request, R-4 to R-20, with the saved timestamps of interleaved mode.
 mod saved;
 
 use header::Header;
@@ -69,8 +69,8 @@ fn write(header: Header, request: &[u8], filter: &[u8], information: &[u8], out:
     answer_fields::write(request, filter, information, out);
 }
 
-// Answers a request: the answer goes to the start of `out` and is as long as the request. `fresh_cookie` is looked at only where the request wants an
-// interleaved answer.
+// Answers a request: the answer goes to the start of `out` and is as long as the request (R-20). `fresh_cookie` is looked at only where the request
+// wants an interleaved answer (R-7, R-8).
 pub fn answer(
     store: &mut [u8],
     request: &[u8],

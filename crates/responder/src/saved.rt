@@ -9,7 +9,7 @@ ghost use lib.Dec.{eqb};
 ghost use Rattle.store_rules.specs.Row.{timeOf, without, sizeOf, rowOf, wrongStore, storeOctets};
 ghost use Rattle.responder_rules.specs.Answer.{savedTime, wrongFresh, rowAfter};
 
-// Refusal 8: a fresh cookie is needed, and it is 0 or in the store.
+// N-20, by R-8.
 pub(crate) fn wrong_fresh(store: &[u8], asked: Header, fresh_cookie: ServerCookie) -> bool
     requires { ⌜ wrongStore (now store) ≡ false ⌝ }
     ensures { λ r. ⌜ r ≡ wrongFresh asked («fresh_cookie» .0) (rowOf (now (store .entry))) ⌝ }
@@ -21,7 +21,7 @@ pub(crate) fn wrong_fresh(store: &[u8], asked: Header, fresh_cookie: ServerCooki
     false
 }
 
-// The time that was reported for the cookie of a request that wants an interleaved answer, or 0.
+// R-9: the time that was reported for the cookie of a request that wants an interleaved answer, or 0.
 pub(crate) fn time(store: &[u8], asked: Header) -> u64
     requires { ⌜ wrongStore (now store) ≡ false ⌝ }
     ensures { λ r. ⌜ r ≡ savedTime asked (rowOf (now (store .entry))) ⌝ }
@@ -33,7 +33,7 @@ pub(crate) fn time(store: &[u8], asked: Header) -> u64
     0
 }
 
-// The record whose time was sent leaves; a time of 0 was not.
+// R-10: the record whose time was sent leaves; a time of 0 was not.
 fn leave(store: &mut [u8], cookie: ServerCookie, time: u64)
     requires { ⌜ (wrongStore (now store) ≡ false) × (time ≡ timeOf (cookie .0) (rowOf (now store))) ⌝ }
     ensures { λ _. ⌜ now (store .exit) ≡ storeOctets (sizeOf (now (store .entry)))
@@ -46,7 +46,7 @@ fn leave(store: &mut [u8], cookie: ServerCookie, time: u64)
     store_row::remove(store, at);
 }
 
-// What an answer leaves: the record whose time was sent goes, and then the fresh cookie joins.
+// What an answer leaves: R-10, then R-12 to R-14.
 pub(crate) fn keep(store: &mut [u8], asked: Header, fresh_cookie: ServerCookie, time: u64)
     requires { ⌜ (wrongStore (now store) ≡ false) × (time ≡ savedTime asked (rowOf (now store))) ⌝ }
     ensures { λ _. ⌜ now (store .exit) ≡ storeOctets (sizeOf (now (store .entry)))

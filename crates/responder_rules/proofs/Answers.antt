@@ -103,7 +103,7 @@ module _ (g : Given) (a : Accepted g) where
         }))
         sent-pass
 
-    -- its fields are those that the page lists and no others
+    -- its fields are those of R-16 to R-20 and no others
     pub answer-fields : fieldsOf (answerOctets g row) ≡ placed 48 (sentFields g)
     unfolding answerOctets
     answer-fields = fields-written (headerOctets sent) (sentFields g) 48 (length-header sent) fields-fit

@@ -1,4 +1,4 @@
--- A call is accepted exactly when no refusal applies to it, and then does what the page says. Assumes nothing.
+-- A call is accepted exactly when no refusal applies to it, and then does what the rules say, D-4 and R-3. Assumes nothing.
 use mathlib.Core.Path.{sym, ap, _∙_, subst⁻¹}
 use mathlib.Core.List.{List, []}
 use Prim.Native.Nat.{ℕ}

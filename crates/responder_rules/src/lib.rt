@@ -1,6 +1,6 @@
-// The answer of document 01: specs/ defines it and says what holds of it, proofs/ that it does. There is no code, only the answer's types.
+// The answer, R-4 to R-20: specs/ defines it and says what holds of it, proofs/ that it does. There is no code, only the answer's types.
 
-// What a server says of its clock in every answer.
+// R-4: what a server says of its clock in every answer.
 pub struct Server {
     pub leap: u8,
     pub stratum: u8,

@@ -1,1 +1,1 @@
-// The calls on one datagram or one filter: specs/ says that a refusal returns its number and changes nothing, proofs/ that it is so. There is no code.
+// The refusals of the calls on one datagram or one filter, N-27 and N-28: specs/ says what holds of them, proofs/ that it does. There is no code.

@@ -1,4 +1,4 @@
-// The responder's saved timestamps, on lent octets: a row of 1 to 64 records of 16 octets, a server cookie and its transmit time.
+// The responder's saved timestamps, R-1 to R-3, on lent octets: a record is 16 octets, a server cookie and its transmit time.
 use header::ServerCookie;
 use octets::number;
 use octets::part;
@@ -16,7 +16,7 @@ pub fn clear(store: &mut [u8]) -> u8
     0
 }
 
-// Gives a stored cookie its time, once.
+// R-3.
 pub fn report(store: &mut [u8], cookie: ServerCookie, time: u64) -> u8
     ensures { λ r. ⌜ (r, now (store .exit)) ≡ reporting (now (store .entry)) (cookie .0) time ⌝ }
 {

@@ -1,4 +1,4 @@
-// The store part of refusal 6.
+// The store part of refusal 6: N-10 and N-14.
 use octets::number;
 use octets::part;
 ghost use mathlib.Core.Path.{_≡_};
@@ -8,7 +8,7 @@ ghost use lib.ListN.{length};
 ghost use Rattle.octets.specs.Number.{num};
 ghost use Rattle.store_rules.specs.Row.{held, recordsFrom, allUnused, wrongSize, wrongStore};
 
-// A row is 1 to 64 records.
+// N-10, by R-1.
 pub fn wrong_size(store: &[u8]) -> bool
     ensures { λ r. ⌜ r ≡ wrongSize (now (store .entry)) ⌝ }
 {
@@ -81,7 +81,7 @@ fn held_later(store: &[u8], at: usize) -> bool
     false
 }
 
-// The size, a gap, a used cookie 0, or a cookie held twice.
+// N-10, N-14.
 pub fn wrong(store: &[u8]) -> bool
     ensures { λ r. ⌜ r ≡ wrongStore (now (store .entry)) ⌝ }
 {

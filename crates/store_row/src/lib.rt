@@ -22,7 +22,7 @@ pub fn find(store: &[u8], cookie: ServerCookie) -> usize
     at
 }
 
-// The record at a place leaves, and those after it move up.
+// R-10: the record at a place leaves, and those after it move up.
 pub fn remove(store: &mut [u8], at: usize)
     ensures { λ _. ⌜ now (store .exit) ≡ removed (now (store .entry)) at ⌝ }
 {
@@ -45,7 +45,7 @@ fn shift(store: &mut [u8], at: usize, last: usize)
     }
 }
 
-// A cookie goes to the first record that is unused; where there is none, the oldest leaves.
+// R-12, R-13: a cookie goes to the first record that is unused.
 pub fn join(store: &mut [u8], cookie: ServerCookie)
     ensures { λ _. ⌜ now (store .exit) ≡ joinedOctets (now (store .entry)) (cookie .0) ⌝ }
 {

@@ -1,4 +1,4 @@
--- Every row of the table holds: the definitions give what the page says. Assumes nothing.
+-- Every row of the table holds: the definitions give what the rules say. Assumes nothing.
 use mathlib.Core.Path.{refl}
 use Rattle.octets.specs.Number.{num, octets}
 use Rattle.octets.specs.Piece.{spelled}

@@ -99,7 +99,7 @@ fixed-weight-worked n m e =
     let f : _≡_ {A = ℕ} 1 3 = cc in
     omega arith
 
--- what weight's definition gives at M5 and M7
+-- what weight's definition gives at M-5 and M-7
 fixed-weight : (n : ℕ) → WeightFor (fixedWeight n) → ⊥
 fixed-weight n d =
     let at : (id : List ℕ) → n ≡ weight (ofId id) = λ id. d (ofId id) (length-addAll freshFilter (positions id) ∙ length-fresh) in
