@@ -1,9 +1,9 @@
 #!/usr/bin/env python3
-"""What the program `cases` should print, from a reading of documents 01 and 02 alone.
+"""What the program `cases` should print, from a reading of the requirements (docs/RULES.md) alone.
 
 usage: cases_model.py < CASES > EXPECTED
 
-Plain Python, written from the pages and docs/CASES.md, and from nothing of the Rattle code. The pages are in
+Plain Python, written from the requirements and docs/CASES.md, and from nothing of the Rattle code. The rules are in
 page_model.py, client_model.py and responder_model.py; the case files' format is here.
 """
 import re

@@ -1,7 +1,7 @@
-"""The client table of document 01: its plain table, with the calls that change or read it.
+"""The client table, C-1 to C-33: its plain table, with the calls that change or read it.
 
 Sixteen places, each closed (None) or open. A call answers its refusal number, 0 for success, and after it what
-else the page has it answer; a refused call answers zeros, leaves its output buffer as lent and changes nothing.
+else the rules have it answer; a refused call answers zeros, leaves its output buffer as lent and changes nothing (N-27, N-28).
 """
 from dataclasses import dataclass, field
 

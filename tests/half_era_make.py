@@ -1,4 +1,4 @@
-"""W-206's part of the case file: responses whose times are half an era apart, on the client's table."""
+"""The part of the case file for W206-3 to W206-7: responses whose times are half an era apart, on the client's table."""
 from client_make import OWN_ID, Lines, chunk, exchange, response
 
 HALF_ERA = 2 ** 63

@@ -1,4 +1,4 @@
-"""W-205's part of the case file: a MAC alone, last and not last, in requests and responses, to sound, receive and answer."""
+"""The part of the case file for W205-1 to W205-9: a MAC alone, last and not last, in requests and responses."""
 from cases_model import text_of
 from client_make import Lines, chunk, response
 from page_model import INFORMATION, PADDING, extension

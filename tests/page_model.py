@@ -1,6 +1,6 @@
-"""What documents 01 and 02 say of headers, field chains, filters and measurement: each answer from its arguments alone.
+"""What the requirements (docs/RULES.md, H, F, B, T and W205, W206) say of single calls: each answer from its arguments alone.
 
-Plain Python, written from the pages, and from nothing of the Rattle code:
+Plain Python, written from the requirements, and from nothing of the Rattle code:
 octet strings are `bytes`, numbers are whole numbers without a width.
 """
 
@@ -16,7 +16,7 @@ def number(octets):
 
 
 def header_refusal(datagram, wanted_mode):
-    """Refusals 1, 2 and 3, in this order; 0 where none applies."""
+    """N-1 to N-3, in this order; 0 where none applies."""
     if not 48 <= len(datagram) <= 1280 or len(datagram) % 4 != 0:
         return 1
     if datagram[0] // 8 % 8 != 5:
@@ -27,7 +27,7 @@ def header_refusal(datagram, wanted_mode):
 
 
 def chain_refusal(datagram):
-    """Refusals 4 and 5, field by field from the left, 4 before 5 within a field."""
+    """N-4 and N-5, in the order of N-26."""
     at = 48
     while at < len(datagram):
         length = number(datagram[at + 2:at + 4])
@@ -50,7 +50,7 @@ def fields(datagram):
 
 
 def mac_refusal(datagram):
-    """Refusal 13, of a datagram without refusals 1 to 5: a field that is not the last is a MAC."""
+    """W205-4, of a datagram without refusals 1 to 5: a field that is not the last is a MAC."""
     kinds = [kind for kind, _ in fields(datagram)]
     return 13 if MAC in kinds[:-1] else 0
 
@@ -80,7 +80,7 @@ def read_header(datagram):
 
 
 def write_header(values, output):
-    """Refusal 6 for leap and mode, then 11; octets past the header stay, and all of them on a refusal."""
+    """N-7, then N-23; octets past the header stay (N-29), and all of them on a refusal."""
     if values["leap"] > 3 or values["mode"] not in (3, 4):
         return 6, output
     if len(output) < 48:
@@ -92,7 +92,7 @@ def write_header(values, output):
 
 
 def positions(identifier):
-    """Ten numbers of twelve bits, highest first."""
+    """B-2: ten numbers of twelve bits, highest first."""
     bits = "".join(f"{octet:08b}" for octet in identifier)
     return [int(bits[i:i + 12], 2) for i in range(0, 120, 12)]
 
@@ -119,7 +119,7 @@ def weight(filter_octets):
 
 
 def difference(a, b):
-    """Modulo 2^64, read as the whole number from -(2^63 - 1) to 2^63 - 1; None for 2^63, half an era, which has no sign."""
+    """T-3, T-4: None for 2^63, half an era, which has no sign (W206-1)."""
     d = (a - b) % 2 ** 64
     if d == 2 ** 63:
         return None
@@ -127,7 +127,7 @@ def difference(a, b):
 
 
 def measure(t1, t2, t3, t4):
-    """Judgement 0 with offset and delay, or 5 and zeros if any of the four differences is half an era."""
+    """Judgement 0 with offset and delay (T-6, T-7), or 5 and zeros (W206-3, W206-7)."""
     outward, back, whole, inside = difference(t2, t1), difference(t3, t4), difference(t4, t1), difference(t3, t2)
     if None in (outward, back, whole, inside):
         return 5, 0, 0

@@ -1,7 +1,7 @@
-"""The responder of document 01 and its store of saved timestamps.
+"""The responder and its store of saved timestamps, R-1 to R-20.
 
-A call answers its refusal number, 0 for success, and after it what else the page has it answer; a refused call
-answers zeros, leaves its output buffer as lent and changes nothing.
+A call answers its refusal number, 0 for success, and after it what else the rules have it answer; a refused call
+answers zeros, leaves its output buffer as lent and changes nothing (N-27, N-28).
 """
 from page_model import (DRAFT, DRAFT_NAME, FILTER_REQUEST, FILTER_RESPONSE, INFORMATION, INTERLEAVED, PADDING, extension,
                         fields, number, read_header, sound, write_header)
@@ -10,12 +10,12 @@ SERVER = ("leap", "stratum", "poll", "precision", "timescale", "era", "flags", "
 
 
 def good_request(data):
-    """A filter request: a multiple of 4 octets from 4 to 512, and no further than the filter's end."""
+    """F-14: a filter request is good."""
     return len(data) in range(4, 513, 4) and number(data[:2]) + len(data) <= 512
 
 
 def answer_fields(request, filter_octets, information):
-    """What answers each field, in request order; a second field of a type already met is skipped."""
+    """R-16 to R-19: what answers each field; F-18: a second field of a type already met is skipped."""
     met = set()
     for kind, data in fields(request):
         if kind in met:
@@ -55,7 +55,7 @@ class Store:
         return [record for record in self.records() if record != (0, 0)]
 
     def wrong(self):
-        """The store part of 6: its size; a gap; a used cookie 0; one held twice."""
+        """The store part of 6: N-10 and N-14."""
         if len(self.octets) not in range(16, 1025, 16):
             return True
         row = self.row()

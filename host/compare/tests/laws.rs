@@ -1,5 +1,5 @@
-//! The laws of filters for a safety review, in their order there, tried on the library's
-//! calls: each on 10,000 filters, from none set to all set.
+//! The laws of filters for a safety review, W207-1 to W207-7, tried on the library's calls:
+//! each on 10,000 filters, from none set to all set.
 #![forbid(unsafe_code)]
 
 use compare::random::Random;

@@ -1,4 +1,4 @@
-//! Change request W-205's sentence, tried on every short chain, for the library and the reference.
+//! W205-1 to W205-5, tried on every short chain, for the library and the reference.
 #![forbid(unsafe_code)]
 
 /// A field's octets, and what it is: its own refusal, or 0, and whether it is a MAC.

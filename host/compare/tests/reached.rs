@@ -1,5 +1,5 @@
-//! A record's head is in range exactly if calls on a cleared table lead to it; a call on
-//! any other is refused with 6.
+//! N-13: a record's head is in range exactly if calls on a cleared table lead to it; a call
+//! on any other is refused with 6.
 #![forbid(unsafe_code)]
 
 use compare::call::{Call, Side};

@@ -4,7 +4,7 @@
 use std::error::Error;
 use std::fmt;
 
-/// Why a call was refused. The value is document 01's number, or document 02's.
+/// Why a call was refused. The value is its number, N-1 to N-24 and W205-4.
 #[derive(Clone, Copy, Debug, PartialEq, Eq, Hash)]
 #[repr(u8)]
 pub enum Refusal {
@@ -54,7 +54,7 @@ impl Refusal {
         Refusal::AfterMac,
     ];
 
-    /// The number of document 01 or 02.
+    /// The refusal number.
     pub fn number(self) -> u8 {
         self as u8
     }

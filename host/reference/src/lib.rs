@@ -1,5 +1,4 @@
-//! Document 01, with the change requests of document 02, in plain safe Rust, written from
-//! those pages alone.
+//! The requirements (docs/RULES.md) in plain safe Rust, written from them alone.
 //!
 //! It shares no code with the library, so that a difference between the two
 //! shows an error in one of them. It is also the benchmark's rival: a table

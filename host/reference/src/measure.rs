@@ -16,14 +16,14 @@ pub struct Times {
 /// A measurement in units of 2^-32 s.
 #[derive(Clone, Copy, Debug, PartialEq, Eq)]
 pub struct Measured {
-    /// Half of (T2-T1) + (T3-T4), rounded toward minus infinity.
+    /// T-6: half of (T2-T1) + (T3-T4), rounded toward minus infinity.
     pub offset: i64,
-    /// The size of (T4-T1) - (T3-T2).
+    /// T-7: the size of (T4-T1) - (T3-T2).
     pub delay: u64,
 }
 
-/// `a - b` modulo 2^64, read as a number from -(2^63 - 1) to 2^63 - 1.
-/// 2^63, half an era, has no sign.
+/// T-3, T-4: `a - b` modulo 2^64, read as a number from -(2^63 - 1) to 2^63 - 1.
+/// 2^63, half an era, has no sign (W206-1).
 fn difference(a: u64, b: u64) -> Option<i128> {
     let number = a.wrapping_sub(b) as i64;
     (number != i64::MIN).then_some(number.into())

@@ -1,6 +1,6 @@
 //! Refusal numbers.
 
-/// Why a call was refused. The value is document 01's number, or document 02's.
+/// Why a call was refused. The value is its number, N-1 to N-24 and W205-4.
 #[derive(Clone, Copy, Debug, PartialEq, Eq)]
 #[repr(u8)]
 pub enum Refusal {
@@ -33,7 +33,7 @@ pub enum Refusal {
 }
 
 impl Refusal {
-    /// The number of document 01 or 02.
+    /// The refusal number.
     pub fn number(self) -> u8 {
         self as u8
     }

@@ -1,4 +1,4 @@
-//! Cases M1 to M12 and the whole first poll of document 01.
+//! The worked cases, M-1 to M-13.
 #![forbid(unsafe_code)]
 
 use reference::chain::sound;
@@ -102,10 +102,10 @@ fn m8_to_m11_measurement() {
     for (times, measured) in [
         ([era, 0x8000_0000, 0x8000_0000, 0x1_0000_0000], Some((2147483648, 8589934592))),
         ([10, 10, 10, 11], Some((-1, 1))),
-        // M10, as W-206 has it.
+        // M-10, W206-8.
         ([1, half + 1, half + 1, 1], None),
         ([1, half, half, 1], Some((i64::MAX, 0))),
-        // Halving each difference before adding would give 0.
+        // E-3 would give 0.
         ([1, 2, 2, 1], Some((1, 0))),
     ] {
         assert_eq!(measure(times), measured);

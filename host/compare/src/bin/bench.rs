@@ -2,8 +2,8 @@
 //!
 //! It prints a table and, for programs, a line `ratio NAME X.XX` for each call: the
 //! library's instructions over those of the reference on the same lent octets, with
-//! the tests of them that document 01 asks. `ratio-plain NAME X.XX` is over those of
-//! the reference on structs of its own, which it neither loads, tests nor stores.
+//! the tests of them by N-9, N-10, N-13 and N-14. `ratio-plain NAME X.XX` is over those
+//! of the reference on structs of its own, which it neither loads, tests nor stores.
 #![forbid(unsafe_code)]
 
 use compare::bench::cases::CASES;
