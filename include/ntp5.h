@@ -211,7 +211,7 @@ ntp5_received ntp5_receive(uint8_t *table, size_t table_len, uint8_t association
  *   - after a change of sources, here or there, a clear counts once 512/c chunks that were polled after it were taken;
  *   - c is chosen at opening by how fast a loop must be seen: 512/c polls of 84 + c octets, from 32 polls of 100 octets with
  *     c = 16 to one of 596 with c = 512;
- *   - the verdict is asked again after every taken chunk, not once.
+ *   - the verdict is asked again after every taken chunk, not once; where none comes any more it stays as it is and grows old.
  * Refuses: 6 (also an ID of another size), 7 if not open.
  */
 ntp5_verdict ntp5_loop_verdict(const uint8_t *table, size_t table_len, uint8_t association, const uint8_t *id,
