@@ -38,6 +38,15 @@
 #include <stddef.h>
 #include <stdint.h>
 
+/*
+ * The interface's version. The first number changes where a caller has to change, the second where something was added; the
+ * README lists what changed.
+ */
+#define NTP5_VERSION_MAJOR 2
+#define NTP5_VERSION_MINOR 1
+#define NTP5_VERSION_PATCH 0
+#define NTP5_VERSION "2.1.0"
+
 #ifdef __cplusplus
 extern "C" {
 #endif

@@ -1,3 +1,4 @@
+#!/usr/bin/env python3
 """Shows what tools/story.py makes of words and lines."""
 import pathlib
 import sys
@@ -5,7 +6,8 @@ import unittest
 
 sys.dont_write_bytecode = True      # no generated folder beside the sources
 sys.path.insert(0, str(pathlib.Path(__file__).resolve().parent.parent / "tools"))
-import story        # noqa: E402
+import story                     # noqa: E402
+from counted import counted     # noqa: E402
 
 
 class Story(unittest.TestCase):
@@ -39,3 +41,7 @@ class Story(unittest.TestCase):
         self.assertEqual(story.shown("call", " ".join(["answer", *[octets] * 6, "0x51", "-20", "00100000"])),
                          f"    call    answer{cut * 3}\n{' ' * 18}{cut * 3} 0x51 -20 00100000")
         self.assertIn("x" * 120, story.shown("result", "x" * 120))
+
+
+if __name__ == "__main__":
+    sys.exit(counted("the demo's lines"))

@@ -1,7 +1,7 @@
 #!/usr/bin/env python3
-"""Shows that tools/contracts.py and tools/claims.py refuse what they are for: each gets small wrong texts, and right ones.
+"""Shows that tools/contracts.py, claims.py and verdicts.py refuse what they are for: each gets small wrong texts, and right ones.
 
-Without it a check that refuses nothing any more would go unnoticed. Runs the tests of the other tools too, each a file of its own.
+Without it a check that refuses nothing any more would go unnoticed.
 """
 import contextlib
 import io
@@ -11,10 +11,10 @@ import unittest
 
 sys.dont_write_bytecode = True      # no generated folder beside the sources
 sys.path.insert(0, str(pathlib.Path(__file__).resolve().parent.parent / "tools"))
-import claims       # noqa: E402
-import contracts    # noqa: E402
-import story_test   # noqa: E402
-import trace_test   # noqa: E402
+import claims                   # noqa: E402
+import contracts                # noqa: E402
+import verdicts                 # noqa: E402
+from counted import counted     # noqa: E402
 
 RULES = {"crates/own/specs/Rules.antt": {"cleared", "sizeOf", "twice"}, "crates/below/specs/Base.antt": {"base"}}
 USES = """
@@ -229,18 +229,23 @@ class Claims(unittest.TestCase):
         self.refused("no closed type", page=PAGE + "| `own/specs/Rules.antt:Gone` | A type. |\n")
 
 
-def main():
-    """Says how many tests passed: none is no success either."""
-    output = io.StringIO()
-    load = unittest.defaultTestLoader.loadTestsFromModule
-    tests = unittest.TestSuite(load(module) for module in (sys.modules[__name__], story_test, trace_test))
-    result = unittest.TextTestRunner(stream=output).run(tests)
-    if not result.wasSuccessful() or result.skipped or not result.testsRun:
-        print(output.getvalue())
-        return 1
-    print(f"tools_test: {result.testsRun} tests of the checks passed")
-    return 0
+class Verdicts(unittest.TestCase):
+    RIGHT = "logic=proved functions=3 sum=09af native=nat,char,string logic-built=trusted libraries-built=trusted"
+
+    def test_right_ones(self):
+        library = self.RIGHT.replace("sum", "target=x86_64-unknown-linux-gnu sum")
+        program = self.RIGHT.replace("sum", "axioms=8 sum")
+        for crate, said in (("own", self.RIGHT), ("own", "fn own::f: proved\n" + library), ("cases", program)):
+            self.assertIsNone(verdicts.fault(crate, said))
+
+    def test_wrong_ones(self):
+        self.assertEqual(verdicts.fault("own", "fn own::f: proved\n"), "0 verdicts")
+        self.assertEqual(verdicts.fault("own", self.RIGHT + "\n" + self.RIGHT), "2 verdicts")
+        for word in ("axioms=8", "foreign=own::f", "cache=trusted", "incremental=trusted", "pinned=no", "crate-checked=trusted"):
+            self.assertEqual(verdicts.fault("own", f"{self.RIGHT} {word}"), f"the verdict has {word}")
+        self.assertIn("not-proved", verdicts.fault("own", "logic=not-proved"))
+        self.assertIn("foreign", verdicts.fault("cases", self.RIGHT + " foreign=cases::f"))
 
 
 if __name__ == "__main__":
-    sys.exit(main())
+    sys.exit(counted("the checks of contracts, claims and verdicts"))

@@ -1,3 +1,4 @@
+#!/usr/bin/env python3
 """Shows that tools/trace.py refuses what it is for: small wrong pages and citations, and right ones."""
 import pathlib
 import sys
@@ -5,7 +6,8 @@ import unittest
 
 sys.dont_write_bytecode = True      # no generated folder beside the sources
 sys.path.insert(0, str(pathlib.Path(__file__).resolve().parent.parent / "tools"))
-import trace        # noqa: E402
+import trace                     # noqa: E402
+from counted import counted     # noqa: E402
 
 
 RULES_PAGE = """
@@ -89,3 +91,7 @@ class Trace(unittest.TestCase):
         for path in ("README.md", "include/ntp5.h", "crates/chain/specs/Chain.antt", "docs/DECISIONS.md", "tools/gate"):
             self.assertIn(path, paths)
         self.assertNotIn("docs/RULES.md", paths)
+
+
+if __name__ == "__main__":
+    sys.exit(counted("the check of rules, rows and citations"))
