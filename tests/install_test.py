@@ -63,6 +63,7 @@ class Install(unittest.TestCase):
         output("cc", "-std=c11", "-Wall", "-Wextra", "-Werror", "program.c", *words, "-o", "program", cwd=self.folder)
         version = found["Version"]
         self.assertRegex(version, r"^\d+\.\d+\.\d+$")
+        self.assertIn(f"|---|---|---|\n| {version} |", (TOP / "README.md").read_text(), "README's last version is another")
         self.assertEqual(output(self.folder / "program"), f"{version} {version} 0 100 400\n")
 
     def test_prefix(self):
