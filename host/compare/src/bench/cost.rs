@@ -2,6 +2,7 @@
 
 use super::state::State;
 use super::{Case, Side};
+use std::hint::black_box;
 use std::path::Path;
 use std::process::{Command, Stdio};
 use std::time::Instant;
@@ -9,9 +10,15 @@ use std::time::Instant;
 /// Calls whose instructions are counted together.
 pub const COUNTED: usize = 100;
 /// Calls in one taking of time.
-const TIMED: usize = 5_000;
+const TIMED: usize = 1_000;
 /// Takings of time, of which the best counts.
-const ROUNDS: usize = 15;
+const ROUNDS: usize = 25;
+/// Calls of which each comes after other work; the middle time counts.
+const COLD: usize = 7;
+/// Octets that other work reads, more than the caches hold.
+const OTHER_WORK: usize = 64 << 20;
+/// Octets that a cache takes at once.
+const CACHE_LINE: usize = 64;
 
 /// The instructions of one call, by a run of `program` under callgrind, which
 /// counts only within the side's functions. `folder` takes what callgrind writes.
@@ -41,9 +48,6 @@ pub fn instructions(program: &Path, folder: &Path, case: &Case, side: Side) -> R
 /// cost: the best of several takings with the call, less the best without it.
 pub fn times(case: &Case) -> [f64; 3] {
     let (mut with, mut without) = ([f64::INFINITY; 3], [f64::INFINITY; 3]);
-    let nothing = |state: &mut State| {
-        std::hint::black_box(state);
-    };
     for _ in 0..ROUNDS {
         for side in Side::ALL {
             let i = side as usize;
@@ -62,4 +66,27 @@ fn elapsed(case: &Case, side: Side, call: fn(&mut State)) -> f64 {
         call(&mut state);
     }
     start.elapsed().as_nanos() as f64
+}
+
+/// The nanoseconds of a call of the library that comes after other work, so that no cache
+/// holds anything of it: the middle of several, less that of no call.
+pub fn cold(case: &Case) -> f64 {
+    let memory = vec![1; OTHER_WORK];
+    let [with, without] = [case.call(Side::Library), nothing].map(|call| {
+        let (mut state, mut times) = ((case.state)(), [0; COLD]);
+        for time in &mut times {
+            state.reset(case.reset, Side::Library);
+            black_box(memory.iter().step_by(CACHE_LINE).fold(0_u8, |sum, octet| sum ^ octet));
+            let start = Instant::now();
+            call(&mut state);
+            *time = start.elapsed().as_nanos();
+        }
+        times.sort_unstable();
+        times[COLD / 2] as f64
+    });
+    with - without
+}
+
+fn nothing(state: &mut State) {
+    black_box(state);
 }

@@ -4,11 +4,15 @@
 //! does all that the library does, with the same tests of what was lent; beside it
 //! stands the reference on its plain table and store, which trusts what it keeps.
 
+mod calls;
 pub mod cases;
 pub mod cost;
+mod datagram;
 pub mod rival;
 pub mod state;
+pub mod worst;
 
+use calls::Sides;
 use ntp5::ffi;
 use reference::refusal::Refusal;
 use state::State;
@@ -67,8 +71,8 @@ pub struct Case {
     pub state: fn() -> State,
     /// What it needs before each call.
     pub reset: Reset,
-    /// The call on each side, in the order of [`Side::ALL`].
-    pub calls: [fn(&mut State); 3],
+    /// The call on each side.
+    pub calls: Sides,
 }
 
 impl Case {
@@ -112,6 +116,7 @@ have_refusal! {
     ffi::Received: |returned| returned.refusal;
     ffi::Verdict: |returned| returned.refusal;
     ffi::Weight: |returned| returned.refusal;
+    ffi::Read: |returned| returned.refusal;
 }
 
 impl<T> HasRefusal for Result<T, Refusal> {

@@ -5,7 +5,7 @@
 pub mod plain {
     use reference::association::Verdict;
     use reference::exchange::{Mode, Received};
-    use reference::header::ClientCookie;
+    use reference::header::{ClientCookie, Header, ServerCookie};
     use reference::measure::{Measured, Times};
     use reference::refusal::Refusal;
     use reference::responder::{Occasion, Server};
@@ -13,10 +13,35 @@ pub mod plain {
     use reference::table::Table;
     use reference::{chain, filter};
 
+    /// See [`Table::clear`].
+    #[inline(never)]
+    pub fn clear(table: &mut Table) -> Result<(), Refusal> {
+        table.clear();
+        Ok(())
+    }
+
+    /// See [`Table::open`].
+    #[inline(never)]
+    pub fn open(table: &mut Table, timescale: u8, chunk: u16) -> Result<(), Refusal> {
+        table.open(0, timescale, chunk)
+    }
+
+    /// See [`Table::close`].
+    #[inline(never)]
+    pub fn close(table: &mut Table) -> Result<(), Refusal> {
+        table.close(0)
+    }
+
     /// See [`Table::poll`].
     #[inline(never)]
     pub fn poll(table: &mut Table, cookie: u64, out: &mut [u8]) -> Result<usize, Refusal> {
         table.poll(0, ClientCookie(cookie), 6, Mode::Basic, out)
+    }
+
+    /// See [`Table::sent`].
+    #[inline(never)]
+    pub fn sent(table: &mut Table, t1: u64) -> Result<(), Refusal> {
+        table.sent(0, t1)
     }
 
     /// See [`Table::receive`].
@@ -42,6 +67,19 @@ pub mod plain {
         table.publish(selected, id, out)
     }
 
+    /// See [`Store::new`].
+    #[inline(never)]
+    pub fn store_clear(store: &mut Store, records: usize) -> Result<(), Refusal> {
+        *store = Store::new(records)?;
+        Ok(())
+    }
+
+    /// See [`Store::report`].
+    #[inline(never)]
+    pub fn report(store: &mut Store, cookie: u64, time: u64) -> Result<(), Refusal> {
+        store.report(ServerCookie(cookie), time)
+    }
+
     /// See [`Store::answer`].
     #[inline(never)]
     pub fn answer(
@@ -52,6 +90,18 @@ pub mod plain {
         out: &mut [u8],
     ) -> Result<usize, Refusal> {
         store.answer(request, occasion, server, out)
+    }
+
+    /// See [`Header::read`].
+    #[inline(never)]
+    pub fn header_read(datagram: &[u8], mode: u8) -> Result<Header, Refusal> {
+        Header::read(datagram, mode)
+    }
+
+    /// See [`Header::write`].
+    #[inline(never)]
+    pub fn header_write(header: &Header, out: &mut [u8]) -> Result<(), Refusal> {
+        header.write(out)
     }
 
     /// See [`filter::weight`].
@@ -78,6 +128,12 @@ pub mod plain {
         filter::add(octets, id)
     }
 
+    /// See [`filter::union`].
+    #[inline(never)]
+    pub fn union(into: &mut [u8], other: &[u8]) -> Result<(), Refusal> {
+        filter::union(into, other)
+    }
+
     /// See [`Times::measure`].
     #[inline(never)]
     pub fn measure(t1: u64, t2: u64, t3: u64, t4: u64) -> Option<Measured> {
@@ -89,15 +145,39 @@ pub mod plain {
 pub mod lent {
     use reference::association::Verdict;
     use reference::exchange::{Mode, Received};
-    use reference::header::ClientCookie;
+    use reference::header::{ClientCookie, ServerCookie};
     use reference::lent;
     use reference::refusal::Refusal;
     use reference::responder::{Occasion, Server};
+
+    /// See [`lent::clear`].
+    #[inline(never)]
+    pub fn clear(table: &mut [u8]) -> Result<(), Refusal> {
+        lent::clear(table)
+    }
+
+    /// See [`lent::open`].
+    #[inline(never)]
+    pub fn open(table: &mut [u8], timescale: u8, chunk: u16) -> Result<(), Refusal> {
+        lent::open(table, 0, timescale, chunk)
+    }
+
+    /// See [`lent::close`].
+    #[inline(never)]
+    pub fn close(table: &mut [u8]) -> Result<(), Refusal> {
+        lent::close(table, 0)
+    }
 
     /// See [`lent::poll`].
     #[inline(never)]
     pub fn poll(table: &mut [u8], cookie: u64, out: &mut [u8]) -> Result<usize, Refusal> {
         lent::poll(table, 0, ClientCookie(cookie), 6, Mode::Basic, out)
+    }
+
+    /// See [`lent::sent`].
+    #[inline(never)]
+    pub fn sent(table: &mut [u8], t1: u64) -> Result<(), Refusal> {
+        lent::sent(table, 0, t1)
     }
 
     /// See [`lent::receive`].
@@ -121,6 +201,18 @@ pub mod lent {
         out: &mut [u8],
     ) -> Result<usize, Refusal> {
         lent::publish(table, selected, id, out)
+    }
+
+    /// See [`lent::store_clear`].
+    #[inline(never)]
+    pub fn store_clear(store: &mut [u8]) -> Result<(), Refusal> {
+        lent::store_clear(store)
+    }
+
+    /// See [`lent::report`].
+    #[inline(never)]
+    pub fn report(store: &mut [u8], cookie: u64, time: u64) -> Result<(), Refusal> {
+        lent::report(store, ServerCookie(cookie), time)
     }
 
     /// See [`lent::answer`].

@@ -12,6 +12,9 @@ use reference::table::Table;
 /// Octets of a table's record.
 const RECORD: usize = record::OCTETS;
 
+/// The server cookie of a store's first record; the others have the numbers after it.
+pub(super) const FIRST_COOKIE: u64 = 1000;
+
 /// All that a call may need. What a call changes stands twice: as it is, and as it was.
 #[allow(missing_docs)]
 pub struct State {
@@ -24,12 +27,20 @@ pub struct State {
     pub store: Vec<u8>,
     pub store_was: Vec<u8>,
     pub datagram: Vec<u8>,
+    /// Datagrams that take their turns with the first, if there are any.
+    pub others: Vec<Vec<u8>>,
+    /// Whose turn it is.
+    pub turn: usize,
+    pub header: Header,
     pub out: Vec<u8>,
     pub filter: Vec<u8>,
+    pub other_filter: Vec<u8>,
     pub id: Vec<u8>,
     pub times: [u64; 4],
     pub cookie: u64,
     pub fresh: u64,
+    /// The server cookie whose time is reported.
+    pub reported: u64,
     pub selected: u16,
     /// The last call's refusal number.
     pub refusal: u8,
@@ -52,12 +63,17 @@ impl State {
             store: octets.clone(),
             store_was: octets,
             datagram,
+            others: Vec::new(),
+            turn: 0,
+            header: basic_request(),
             out: vec![0; 1280],
             filter: (0..512).map(|_| random.any() as u8).collect(),
             id: (0..15).map(|_| random.any() as u8).collect(),
             times: [0; 4].map(|_: u64| random.any()),
+            other_filter: (0..512).map(|_| random.any() as u8).collect(),
             cookie: 1 << 40,
             fresh: 1 << 50,
+            reported: 0,
             selected: 0,
             refusal: 0,
         }
@@ -68,9 +84,18 @@ impl State {
         State::new(Table::default(), Store::new(1).expect("one record"), 1, datagram)
     }
 
-    /// Brings back what a side's call changed.
+    /// A state for calls on this table.
+    pub(super) fn with_table(plain: Table) -> Self {
+        State::new(plain, Store::new(1).expect("one record"), 1, Vec::new())
+    }
+
+    /// Brings back what a side's call changed, and takes the next datagram.
     #[inline(never)]
     pub fn reset(&mut self, reset: Reset, side: Side) {
+        if let Some(next) = self.others.get_mut(self.turn) {
+            std::mem::swap(&mut self.datagram, next);
+            self.turn = (self.turn + 1) % self.others.len();
+        }
         match (reset, side) {
             (Reset::Nothing, _) => {}
             (Reset::Cookie, _) => self.cookie += 1,
@@ -87,7 +112,7 @@ impl State {
     pub fn opened(c: u16) -> Self {
         let mut plain = Table::default();
         plain.open(0, 0, c).expect("an offered size");
-        State::new(plain, Store::new(1).expect("one record"), 1, Vec::new())
+        State::with_table(plain)
     }
 
     /// An outstanding request and its answer, `before` interleaved exchanges after opening.
@@ -116,38 +141,37 @@ impl State {
 
     /// Sixteen associations with complete filters; `selected` is published.
     pub fn complete(selected: u16) -> Self {
-        let (mut plain, mut store) = (Table::default(), Store::new(8).expect("eight records"));
-        plain.open(0, 0, 512).expect("an offered size");
-        let response = exchange(&mut plain, &mut store, 1);
-        plain.receive(0, &response, 1030).expect("an answer");
-        for place in 1..16 {
-            plain.places[place] = plain.places[0].clone();
-        }
-        let mut state = State::new(plain, store, 8, response);
+        let mut state = State::with_table(complete_table(|_| {}));
         state.selected = selected;
         state
     }
 
-    /// A full row of 64 reported records, and a poll's request that names the middle one.
-    pub fn full_store() -> Self {
+    /// A row of 64 records, of which `used` are used and the first `reported` have their
+    /// times, and a request.
+    pub fn stored(used: u64, reported: u64, request: Vec<u8>) -> Self {
         let mut store = Store::new(64).expect("64 records");
-        for i in 0..64 {
-            store.join(ServerCookie(1000 + i));
-            store.report(ServerCookie(1000 + i), 5000 + i).expect("a stored cookie");
+        let cookie = |i| ServerCookie(FIRST_COOKIE + i);
+        (0..used).for_each(|i| store.join(cookie(i)));
+        for i in 0..reported {
+            store.report(cookie(i), 5000 + i).expect("a stored cookie");
         }
-        let mut request = poll_request();
-        let asked = Header {
-            flags: INTERLEAVED,
-            server_cookie: ServerCookie(1032),
-            ..Header::read(&request, REQUEST).expect("a request")
-        };
-        asked.write(&mut request).expect("room for a header");
         State::new(Table::default(), store, 64, request)
     }
 }
 
+/// Sixteen associations with complete filters, each after `then`.
+pub(super) fn complete_table(then: fn(&mut Table)) -> Table {
+    let (mut plain, mut store) = (Table::default(), Store::new(8).expect("eight records"));
+    plain.open(0, 0, 512).expect("an offered size");
+    let response = exchange(&mut plain, &mut store, 1);
+    plain.receive(0, &response, 1030).expect("an answer");
+    then(&mut plain);
+    plain.places = std::array::from_fn(|_| plain.places[0].clone());
+    plain
+}
+
 /// Polls, and answers with a filter that is all ones.
-fn exchange(plain: &mut Table, store: &mut Store, cookie: u64) -> Vec<u8> {
+pub(super) fn exchange(plain: &mut Table, store: &mut Store, cookie: u64) -> Vec<u8> {
     let (mut request, mut response) = ([0; 600], vec![0; 600]);
     let polled = plain.poll(0, ClientCookie(cookie), 6, Mode::Interleaved, &mut request);
     let length = polled.expect("a request");
@@ -160,6 +184,11 @@ fn exchange(plain: &mut Table, store: &mut Store, cookie: u64) -> Vec<u8> {
     response
 }
 
+/// A basic request's header.
+pub(super) fn basic_request() -> Header {
+    Header { mode: REQUEST, ..Header::default() }
+}
+
 /// A basic poll's request for 16 octets.
 pub fn poll_request() -> Vec<u8> {
     let mut state = State::opened(16);
@@ -167,6 +196,17 @@ pub fn poll_request() -> Vec<u8> {
     let polled = state.plain.poll(0, cookie, 6, Mode::Basic, &mut state.out);
     state.out.truncate(polled.expect("a request"));
     state.out
+}
+
+/// The request, made to want an interleaved answer from a store's record.
+pub fn naming(mut request: Vec<u8>, record: u64) -> Vec<u8> {
+    let asked = Header {
+        flags: INTERLEAVED,
+        server_cookie: ServerCookie(FIRST_COOKIE + record),
+        ..Header::read(&request, REQUEST).expect("a request")
+    };
+    asked.write(&mut request).expect("room for a header");
+    request
 }
 
 /// What the measured server says of itself.

@@ -1,0 +1,152 @@
+//! The calls on what costs the library the most instructions, found by search, and those that
+//! walk a chain also on chains that no processor can foresee.
+
+use super::calls::{ANSWER, CLEAR, CLOSE, HEADER_READ, HEADER_WRITE, OPEN, POLL, PUBLISH};
+use super::calls::{RECEIVE, REPORT, SENT, SOUND, STORE_CLEAR, UNION, VERDICT};
+use super::datagram::{filled, irregular, UNKNOWN};
+use super::state::{basic_request, complete_table, exchange, State, FIRST_COOKIE};
+use super::{Case, Reset};
+use crate::random::Random;
+use reference::chain;
+use reference::exchange::Mode;
+use reference::header::{ClientCookie, Header, ServerCookie, INTERLEAVED, RESPONSE};
+use reference::store::Store;
+use reference::table::Table;
+
+/// Irregular datagrams that take turns. A processor learns a few by heart.
+const IRREGULAR: usize = 512;
+/// Used records of a store of 64: one less than all costs a little more than all.
+const USED: u64 = 63;
+const NEWEST: u64 = FIRST_COOKIE + USED - 1;
+
+/// Polls the first association with a second cookie.
+fn poll_again(plain: &mut Table) {
+    let (cookie, mut out) = (ClientCookie(2), [0; 600]);
+    plain.poll(0, cookie, 6, Mode::Interleaved, &mut out).expect("a request");
+}
+
+/// An outstanding request, the first after opening.
+fn polled(c: u16) -> Table {
+    let mut plain = Table::default();
+    plain.open(0, 0, c).expect("an offered size");
+    poll_again(&mut plain);
+    plain
+}
+
+/// The same with its T1.
+fn sent(c: u16) -> State {
+    let mut plain = polled(c);
+    plain.sent(0, 1000).expect("an outstanding request");
+    State::with_table(plain)
+}
+
+/// An outstanding request after an answer of timescale 1. With that timescale none of the
+/// association's numbers is 0; with 0 the next answer changes all that an answer can change.
+fn after_an_answer(timescale: u8) -> Table {
+    let (mut plain, mut store) = (Table::default(), Store::new(8).expect("eight records"));
+    plain.open(0, timescale, 16).expect("an offered size");
+    let mut response = exchange(&mut plain, &mut store, 1);
+    response[4] = 1;
+    plain.receive(0, &response, 1031).expect("an answer");
+    poll_again(&mut plain);
+    plain.sent(0, 2000).expect("an outstanding request");
+    plain
+}
+
+/// The header of a basic answer to the request of [`after_an_answer`].
+fn next_answer() -> Header {
+    Header {
+        mode: RESPONSE,
+        stratum: 1,
+        server_cookie: ServerCookie(2),
+        client_cookie: ClientCookie(2),
+        receive: 2010,
+        transmit: 2020,
+        ..Header::default()
+    }
+}
+
+/// 154 fields of length 5. The last is a filter response, of another size than was asked.
+fn padded_fields() -> State {
+    let mut fields = [(UNKNOWN, 1); 154];
+    fields[153].0 = chain::FILTER_RESPONSE;
+    let mut state = State::with_table(after_an_answer(0));
+    state.datagram = filled(&next_answer(), &fields);
+    state
+}
+
+/// The header of a request that wants the newest record's time.
+fn naming_newest() -> Header {
+    Header { flags: INTERLEAVED, server_cookie: ServerCookie(NEWEST), ..basic_request() }
+}
+
+/// A name and a filter request that are answered, server information that is not good, and
+/// 303 names after the first.
+fn repeated_names() -> State {
+    let mut fields = [(chain::DRAFT_NAME, 0); 306];
+    fields[0].1 = 1;
+    fields[1] = (chain::FILTER_REQUEST, 4);
+    fields[2].0 = chain::SERVER_INFORMATION;
+    State::stored(USED, USED, filled(&naming_newest(), &fields))
+}
+
+/// A store whose newest record waits for its time.
+fn unreported() -> State {
+    let mut state = State::stored(USED, USED - 1, Vec::new());
+    state.reported = NEWEST;
+    state
+}
+
+/// 308 fields of length 4.
+fn short_fields() -> State {
+    State::with_datagram(filled(&basic_request(), &[(UNKNOWN, 0); 308]))
+}
+
+/// The state with irregular datagrams in place of its own.
+fn with_irregular(mut state: State, header: &Header) -> State {
+    let mut random = Random::new(7);
+    state.datagram = irregular(header, &mut random);
+    state.others = (1..IRREGULAR).map(|_| irregular(header, &mut random)).collect();
+    state
+}
+
+/// All sixteen complete, each with an outstanding request. Of the ID's positions only the
+/// last, 1, is not set.
+fn all_outstanding() -> State {
+    let mut state = State::with_table(complete_table(|plain| {
+        poll_again(plain);
+        plain.places[0].0.as_mut().expect("an open one").filter.0[0] = 0xFD;
+    }));
+    state.id = vec![0; 15];
+    state.id[14] = 1;
+    state.selected = u16::MAX;
+    state
+}
+
+/// Any header, filter or closed association: such calls cost the same on all that they accept.
+fn any() -> State {
+    State::with_datagram(basic_request().octets().to_vec())
+}
+
+/// All of them.
+#[rustfmt::skip]
+pub const WORST: [Case; 18] = [
+    Case { name: "worst-clear", state: any, reset: Reset::Nothing, calls: CLEAR },
+    Case { name: "worst-open", state: any, reset: Reset::Record, calls: OPEN },
+    Case { name: "worst-close", state: || State::with_table(after_an_answer(1)), reset: Reset::Record, calls: CLOSE },
+    Case { name: "worst-poll", state: || sent(512), reset: Reset::Record, calls: POLL },
+    Case { name: "worst-sent", state: || State::with_table(polled(16)), reset: Reset::Record, calls: SENT },
+    Case { name: "worst-receive", state: padded_fields, reset: Reset::Record, calls: RECEIVE },
+    Case { name: "worst-receive-irregular", state: || with_irregular(padded_fields(), &next_answer()), reset: Reset::Record, calls: RECEIVE },
+    Case { name: "worst-loop-verdict", state: all_outstanding, reset: Reset::Nothing, calls: VERDICT },
+    Case { name: "worst-publish", state: all_outstanding, reset: Reset::Nothing, calls: PUBLISH },
+    Case { name: "worst-store-clear", state: || State::stored(64, 64, Vec::new()), reset: Reset::Nothing, calls: STORE_CLEAR },
+    Case { name: "worst-report", state: unreported, reset: Reset::Store, calls: REPORT },
+    Case { name: "worst-answer", state: repeated_names, reset: Reset::Store, calls: ANSWER },
+    Case { name: "worst-answer-irregular", state: || with_irregular(repeated_names(), &naming_newest()), reset: Reset::Store, calls: ANSWER },
+    Case { name: "worst-header-read", state: any, reset: Reset::Nothing, calls: HEADER_READ },
+    Case { name: "worst-header-write", state: any, reset: Reset::Nothing, calls: HEADER_WRITE },
+    Case { name: "worst-sound", state: short_fields, reset: Reset::Nothing, calls: SOUND },
+    Case { name: "worst-sound-irregular", state: || with_irregular(any(), &basic_request()), reset: Reset::Nothing, calls: SOUND },
+    Case { name: "worst-union", state: any, reset: Reset::Nothing, calls: UNION },
+];
