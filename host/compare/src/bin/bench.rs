@@ -84,9 +84,7 @@ fn print_table(rows: &[Row]) {
 
 fn print(usual: &[Row], worst: &[Row]) {
     println!("instructions and best time of a call; cold: after other work; lent: the reference");
-    println!(
-        "on octets, with the library's tests of them; plain: on a table and store of its own\n"
-    );
+    println!("on octets, with the library's tests; plain: on a table and store of its own\n");
     print_table(usual);
     println!("the same on what costs the library the most\n");
     print_table(worst);
