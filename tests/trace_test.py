@@ -88,9 +88,8 @@ class Trace(unittest.TestCase):
 
     def test_every_text_is_read(self):
         paths = {path for path, _ in trace.texts()}
-        for path in ("README.md", "include/ntp5.h", "crates/chain/specs/Chain.antt", "docs/DECISIONS.md", "tools/gate"):
+        for path in ("README.md", "include/ntp5.h", "crates/chain/specs/Chain.antt", "docs/RULES.md", "docs/TRACE.md", "tools/gate"):
             self.assertIn(path, paths)
-        self.assertNotIn("docs/RULES.md", paths)
 
 
 if __name__ == "__main__":

@@ -4,8 +4,8 @@
 Of the rules: each row is a number and a text, under its section's letters, and the numbers of a section rise. Of the map: its
 rows have the numbers of the rules, each once and in their order. Everything in backticks there is a file, or a file and a name
 in it after a colon; it fails if a file is gone, if a name is not defined in its file, or if a row lacks a cell. A law of
-`proofs/` is one that docs/CLAIMS.md lists, since any other could be weakened unseen. Of all other files: a rule's number
-that is cited is there. The edits that docs/IDLE.md names have to be there as well.
+`proofs/` is one that docs/CLAIMS.md lists, since any other could be weakened unseen. Of every file, these two too: a rule's
+number that is cited is there. The edits that docs/IDLE.md names have to be there as well.
 """
 import os
 import re
@@ -134,13 +134,12 @@ def citation_faults(path, text, rules):
 
 
 def texts():
-    """Every text of the repository but for the two pages."""
+    """Every text of the repository."""
     for folder, inner, files in os.walk(ROOT):
         inner[:] = sorted(name for name in inner if name not in PASSED_OVER)
         for name in sorted(set(files) - PASSED_OVER):
             path = os.path.relpath(os.path.join(folder, name), ROOT)
-            if path not in (RULES, PAGE):
-                yield path, read(path)
+            yield path, read(path)
 
 
 def idle_faults(text):
@@ -158,7 +157,7 @@ def main():
     faults += map_faults(page, rules) + wrong + idle_faults(read(IDLE))
     for path, text in texts():
         here, wrong = citation_faults(path, text, rules)
-        cited |= here
+        cited |= here if path not in (RULES, PAGE) else set()
         faults += wrong
     if faults:
         print("\n".join(faults))
