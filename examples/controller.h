@@ -24,6 +24,7 @@ typedef struct {
     uint8_t table[NTP5_TABLE_AT_MOST];   /* as a client; only the first ntp5_table_octets() octets are lent */
     uint8_t store[STORE];                /* as a server: transmit times of its answers */
     uint8_t filter[NTP5_FILTER_OCTETS];  /* as a server: what it publishes of whom it follows */
+    uint16_t selected;                   /* the associations that its clock follows, a bit for each */
 } controller;
 
 static inline _Noreturn void stop(const char *file, int line, const char *why, const char *what)
@@ -45,14 +46,29 @@ static inline void accepted(const char *file, int line, const char *what, unsign
 #define ACCEPTED(refusal) accepted(__FILE__, __LINE__, #refusal, (refusal)) /* the refusal of a call that has to be accepted */
 
 /* What the controller serves to its own clients from now on: the filters of the selected sources, and its own ID. */
-static inline void publish(controller *c, uint16_t selected)
+static inline void publish(controller *c)
 {
-    ntp5_written w = ntp5_publish(c->table, ntp5_table_octets(), selected, c->id, sizeof c->id, c->filter, sizeof c->filter);
+    ntp5_written w =
+        ntp5_publish(c->table, ntp5_table_octets(), c->selected, c->id, sizeof c->id, c->filter, sizeof c->filter);
     ACCEPTED(w.refusal);
     EXPECT(w.length == NTP5_FILTER_OCTETS);
     ntp5_weight set = ntp5_filter_weight(c->filter, sizeof c->filter);
     ACCEPTED(set.refusal);
-    printf("%s: follows %s, its filter has %u positions set\n", c->name, selected == 0 ? "nobody" : c->other, set.weight);
+    printf("%s: follows %s, its filter has %u positions set\n", c->name, c->selected == 0 ? "nobody" : c->other, set.weight);
+}
+
+/* The clock follows these associations from now on, and the controller's clients have to see it. */
+static inline void follow(controller *c, uint16_t selected)
+{
+    c->selected = selected;
+    publish(c);
+}
+
+/* A chunk of the source's filter was taken. Whoever is served by a clock that follows the source has to see that too. */
+static inline void chunk_taken(controller *c)
+{
+    if (c->selected != 0)
+        publish(c);
 }
 
 /* What a controller does at start: nothing is saved, its one source is open, and its filter has its own ID alone. */
@@ -63,7 +79,7 @@ static inline void start(controller *c)
     ACCEPTED(ntp5_clear(c->table, size));
     ACCEPTED(ntp5_store_clear(c->store, sizeof c->store));
     ACCEPTED(ntp5_open(c->table, size, SOURCE, 0, CHUNK));
-    publish(c, 0);
+    follow(c, 0);
 }
 
 /* Whether the other follows this controller, as far as the chunks say that have come. */

@@ -92,6 +92,7 @@ static void ask_for_filter(simulated *client, simulated *server, uint8_t before,
             EXPECT(r.offset == (int64_t)(server->ahead - client->ahead));
             EXPECT(r.delay == 2 * MS);
         }
+        chunk_taken(&client->own);
         EXPECT(look_for_loop(&client->own) == (i < PASS ? before : after));
         now += 64000 * MS; /* the next poll, 2^6 s later */
     }
@@ -121,8 +122,8 @@ int main(void)
     ask_for_filter(&right, &left, NTP5_VERDICT_INCOMPLETE, NTP5_VERDICT_CLEAR);
 
     /* Each believes that the other is a good source. */
-    publish(&left.own, 1u << SOURCE);
-    publish(&right.own, 1u << SOURCE);
+    follow(&left.own, 1u << SOURCE);
+    follow(&right.own, 1u << SOURCE);
 
     /*
      * A verdict has an age: it says what the server served during the last pass, chunk by chunk. Each follows the other now,
@@ -140,8 +141,13 @@ int main(void)
     uint64_t half_era = (uint64_t)1 << 63;
     EXPECT(ntp5_measure(MS, MS + half_era, MS + half_era, MS).judgement == NTP5_HALF_ERA);
 
-    /* What a controller does about a loop: it no longer follows that source, and says so. Here the left one yields. */
-    ACCEPTED(ntp5_close(left.own.table, ntp5_table_octets(), SOURCE));
-    publish(&left.own, 0);
+    /*
+     * What a controller does about a loop: it no longer follows that source, publishes without it, and goes on polling it. Here
+     * the left one yields, and the right one sees it with the first new chunk, since one position of its ID that is not set is
+     * enough. Later, when a verdict is clear again, a controller waits a random number of polls before it follows that source.
+     */
+    follow(&left.own, 0);
+    EXPECT(look_for_loop(&right.own) == NTP5_VERDICT_LOOP);
+    ask_for_filter(&right, &left, NTP5_VERDICT_CLEAR, NTP5_VERDICT_CLEAR);
     return 0;
 }

@@ -103,6 +103,7 @@ static void note(endpoint *e, ntp5_received r, bool interleaved)
     }
     printf("%s: answer %u, %s: %s is ahead by %.3f ms, delay %.3f ms\n", e->own.name, e->taken,
            interleaved ? "interleaved" : "basic", e->own.other, (double)r.offset / MS, (double)r.delay / MS);
+    chunk_taken(&e->own);
 }
 
 /* The client's part: a datagram came. Its sender's address says which association it is for; a client of more has a list. */
@@ -197,7 +198,7 @@ static void run(endpoint *e)
     measure(e);
     EXPECT(look_for_loop(&e->own) == NTP5_VERDICT_CLEAR);
     meet(e);
-    publish(&e->own, 1u << SOURCE);
+    follow(&e->own, 1u << SOURCE);
     meet(e);
     /*
      * The other follows us now, but all chunks that we have of its filter are older: still clear. The loop is seen once the chunks

@@ -2,8 +2,8 @@
  * An NTPv5 time unit (draft-mlichvar-ntp-ntpv5-07) for a main loop in C: a client of up to sixteen servers, a responder with
  * interleaved mode, and reference-ID filters that show when a controller follows its own clock. Link with libntp5.a.
  *
- * TARGET: x86-64 Linux, the one target of the Rattle kit's compiler. The proofs are of the source and hold on any processor;
- * an archive for another one needs the kit's back end for it. What the linker and the caller of the archive meet:
+ * TARGET: x86-64 Linux, the one target of the Rattle kit's compiler. The proofs are of the source, and are the same on the
+ * kit's other machine, Arm; an archive for another processor needs the kit's back end for it. What linker and caller meet:
  *   - it needs memcpy, memmove and memset and nothing else; it is position-independent and has no data that are written;
  *   - it uses the SSE registers and the red zone below the stack pointer: call it neither from an interrupt handler that
  *     does not save the SSE registers nor on a stack whose red zone something else writes to, as a kernel's;
@@ -16,7 +16,7 @@
  * What the caller answers for, in every call:
  *   - a pointer points to as many octets as its length says; NULL is allowed with length 0 only;
  *   - the buffers of one call do not overlap;
- *   - one buffer is in one call at a time (there are no locks).
+ *   - a buffer that a call writes is in no other call at that time (there are no locks).
  * Any contents of a buffer are safe: what is wrong is refused.
  *
  * A refusal is a number from 1 to 13. It changes no buffer, and the other numbers of the answer are 0; that is proved of
@@ -202,7 +202,9 @@ uint8_t ntp5_sent(uint8_t *table, size_t table_len, uint8_t association, uint64_
 /*
  * Takes a datagram that came from the association's server at T4. `datagram` is only read. If it is accepted, the request is
  * used up, so that a second copy is refused with 9; the filter chunk is taken, whatever the judgement, and the exchange
- * is measured if it is usable. A buffer to receive into has room for more than NTP5_DATAGRAM_AT_MOST octets, so that a longer
+ * is measured if it is usable. AN INTERLEAVED RESPONSE MEASURES THE EXCHANGE BEFORE IT: what the clock was corrected by since
+ * then is not in its offset; and after a step of the clock poll without interleaved until a response was accepted.
+ * A buffer to receive into has room for more than NTP5_DATAGRAM_AT_MOST octets, so that a longer
  * datagram is refused and not cut to a right length; the same holds for ntp5_answer.
  * Refuses: 6 (also T4 of 0), 7 if not open, 1 to 5, 13, 9 if it does not answer the outstanding request, 10.
  */
@@ -215,8 +217,8 @@ ntp5_received ntp5_receive(uint8_t *table, size_t table_len, uint8_t association
  *
  * A VERDICT HAS AN AGE. A filter comes in chunks of c octets, 512/c of them in a pass, and once complete it stays complete:
  * each chunk is as it was served when it was last taken. A server that begins to follow this ID is still "clear" until the
- * chunks with the ID's positions have been asked again, up to 512/c accepted responses later, and one that no longer does is
- * still "loop" as long. So:
+ * chunks with the ID's positions have been asked again, up to 512/c taken chunks later, and one that no longer does is still
+ * "loop" until the first of them comes again. So:
  *   - after a change of sources, here or there, a clear counts once 512/c chunks that were polled after it were taken;
  *   - c is chosen at opening by how fast a loop must be seen: 512/c polls of 84 + c octets, from 32 polls of 100 octets with
  *     c = 16 to one of 596 with c = 512;

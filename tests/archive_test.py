@@ -4,7 +4,7 @@
 usage: archive_test.py [ARCHIVE]
 
 It defines the header's functions and no others, needs three functions of the C library, has no data that are written and no
-unwind tables, is position-independent, and uses no register that came after SSE2.
+unwind tables, is position-independent, has a section for each function, and no instruction that came after SSE2.
 """
 import pathlib
 import re
@@ -15,6 +15,13 @@ TOP = pathlib.Path(__file__).resolve().parent.parent
 NEEDED = {"memcpy", "memmove", "memset"}
 # Relative to the place of use: nothing that a loader would have to mend.
 RELATIVE = {"R_X86_64_PC32", "R_X86_64_PLT32"}
+# Instructions of SSE3 to AVX-512, of bit manipulation and of ciphers. tzcnt is not among them: an older processor reads it as bsf.
+NEWER = re.compile(r"""
+    v\w+ | pshufb | pabs\w | palignr | ph(add|sub)\w+ | pmaddubsw | pmulhrsw | psign\w | pm(in|ax)(sb|sd|ud|uw) | pmul(ld|dq)
+    | pmov[sz]x\w+ | ptest | pcmp(eqq|gtq|[ei]str\w) | packusdw | p?blend\w+ | round[ps][sd] | dpp[sd] | p(ins|ext)r[bdq]
+    | (extract|insert)ps | mpsadbw | h(add|sub)p[sd] | addsubp[sd] | mov(d|sh|sl)dup | lddqu | popcnt | lzcnt | crc32\w? | movbe
+    | andn | bextr | bls\w+ | bzhi | mulx | pdep | pext | rorx | (sar|shl|shr)x | adcx | adox | aes\w+ | sha\d\w+ | pclmul\w+
+""", re.X)
 
 
 def printed(*command):
@@ -46,9 +53,12 @@ def main():
                if int(size, 16) and "ALLOC" in flags and "READONLY" not in flags]
     faults += [f"section {name}: unwind tables" for name, _, _ in sections if name.startswith((".eh_frame", ".gcc_except"))]
     faults += [f"relocation {name}" for name in sorted(relocations - RELATIVE)]
-    faults += [f"register {name}" for name in sorted(set(re.findall(r"%([yz]mm|k[0-7]\b)", printed("objdump", "-d", archive))))]
+    code = printed("objdump", "-d", "--no-show-raw-insn", archive)
+    instructions = set(re.findall(r"^ +[0-9a-f]+:\t(?:(?:rep\w*|lock|data16|cs|ds) )*(\w+)", code, re.M))
+    faults += [f"instruction {name}" for name in sorted(instructions) if NEWER.fullmatch(name)]
+    faults += [f"section {name} has code of more than one function" for name, size, _ in sections if name == ".text" and int(size, 16)]
     size = sum(int(size, 16) for _, size, flags in sections if "ALLOC" in flags)
-    if faults or not size:
+    if faults or not size or not instructions:
         print("\n".join(faults) or "no code")
         return 1
     print(f"archive: {len(defined)} functions, {size} octets of code and constants, as README and header say")

@@ -81,7 +81,7 @@ close 15
 
 
 def polling(lines):
-    lines.fresh("Poll: the page's whole first poll, octets past it, refusals 6, 7, 8, 11; cookies A, B, A", (0, 0, 16))
+    lines.fresh("Poll: the whole first poll, octets past it, refusals 6, 7, 8, 11; cookies A, B, A", (0, 0, 16))
     lines.add("""
 poll 0 0x0102030405060708 6 basic 00*100
 poll 0 0x0102030405060708 6 basic 00*100

@@ -1,7 +1,11 @@
-"""Runs the tests of one file, and prints what they print only if one fails."""
+"""Runs the tests of one file, and prints what they print only if one fails. Imported first, it lets a test import from tools/."""
 import io
+import pathlib
 import sys
 import unittest
+
+sys.dont_write_bytecode = True      # no generated folder beside the sources
+sys.path.insert(0, str(pathlib.Path(__file__).resolve().parent.parent / "tools"))
 
 
 def counted(subject):

@@ -9,8 +9,7 @@ import sys
 import tempfile
 import unittest
 
-sys.dont_write_bytecode = True      # no generated folder beside the sources
-from counted import counted         # noqa: E402
+from counted import counted
 
 os.environ.pop("MAKEFLAGS", None)   # the words of a make that runs this test
 TOP = pathlib.Path(__file__).resolve().parent.parent
@@ -80,10 +79,13 @@ class Install(unittest.TestCase):
         self.make("uninstall", "LIBDIR=/lib64")
         self.assertEqual(self.installed(), [])
 
-    def test_relative(self):
-        ended = subprocess.run(("make", "-C", TOP, "install", "PREFIX=here"), stdout=subprocess.PIPE, stderr=subprocess.STDOUT, text=True)
-        self.assertIn("install: PREFIX and LIBDIR are absolute paths", ended.stdout)
-        self.assertNotEqual(ended.returncode, 0)
+    def test_refused_folders(self):
+        for word in ("PREFIX=here", "LIBDIR=here", "PREFIX=/opt/time unit", "LIBDIR=/opt/time unit"):
+            ended = subprocess.run(("make", "-C", TOP, "install", f"DESTDIR={self.folder}/root", word), stdout=subprocess.PIPE,
+                                   stderr=subprocess.STDOUT, text=True)
+            self.assertIn("install: PREFIX and LIBDIR are absolute paths without a space", ended.stdout)
+            self.assertNotEqual(ended.returncode, 0)
+        self.assertEqual(self.installed(), [])
 
 
 if __name__ == "__main__":

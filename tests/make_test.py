@@ -17,11 +17,11 @@ import subprocess
 import sys
 import tempfile
 import termios
+import threading
 import time
 import unittest
 
-sys.dont_write_bytecode = True      # no generated folder beside the sources
-from counted import counted         # noqa: E402
+from counted import counted
 
 TOP = pathlib.Path(__file__).resolve().parent.parent
 CRATES = "# NAME: uses\noctets:\nfilter: octets\nntp5: octets filter\ncases: octets io\n"
@@ -35,11 +35,12 @@ NEEDED = {
     "soak": ("soak", "rt cargo cc"),
     "install": ("install", "rt"),
 }
-# It writes the files that rt writes. SLEEP, VERDICT and STATUS: how long a check takes, what is said of a crate, how rt ends.
+# It writes the files that rt writes. HOLD, VERDICT and STATUS: which check waits until the file `go` is there, what is said of a
+# crate, how rt ends.
 RT = """#!/bin/sh
 check() { # FILE WORDS
     : >"target/$1"
-    sleep "${SLEEP:-0}"
+    while [ "$1" = "${HOLD:-}" ] && [ ! -e go ]; do sleep 0.1; done
     echo "rt: $2" | tee -a "target/${1%.*}.out"
 }
 [ "$1" != version ] || { echo "${KIT:-a kit}"; exit; }
@@ -121,9 +122,11 @@ class Targets(Repository):
         """Without these tools a command says a sentence for each, and rt is not called."""
         for tool in tools:
             (BIN / tool).rename(self.top / tool)
-        status, printed = self.run_in(*command)
-        for tool in tools:
-            (self.top / tool).rename(BIN / tool)
+        try:
+            status, printed = self.run_in(*command)
+        finally:
+            for tool in tools:
+                (self.top / tool).rename(BIN / tool)
         calls = self.called()
         said = [line for line in printed.splitlines() if not line.startswith("make: ***")]
         self.assertEqual([line.split(" is missing: ")[0] for line in said], [f"{caller}: '{tool}'" for tool in tools], printed)
@@ -213,10 +216,17 @@ def everything(terminal):
 
 
 class Progress(Repository):
+    def held(self, seconds):
+        """Has the check that is held go on after some seconds, in which the state was shown."""
+        timer = threading.Timer(seconds, (self.top / "go").touch)
+        timer.start()
+        self.addCleanup(timer.join)
+
     def test_lines(self):
-        status, printed = self.run_in("tools/progress", "gate", "ci", SLEEP="0.4")
+        self.held(3)
+        status, printed = self.run_in("tools/progress", "gate", "ci", HOLD="must-fail/ntp5/wrong.out")
         self.assertEqual(status, 0)
-        self.assertRegex(printed, r"^gate: 2 of 8 done, 0:0\d: ntp5/wrong\ngate: 3 of 8 done, 0:0\d\n$")
+        self.assertRegex(printed, r"^gate: [0-2] of 8 done, 0:0\d: (octets|ntp5|ntp5/wrong)\ngate: 3 of 8 done, 0:\d\d\n$")
         log = (self.top / "target/log/gate.log").read_text()
         self.assertEqual(log, "rt: octets proved (0 s)\nrt: ntp5 proved (0 s)\nrt: must-fail ntp5/wrong: refused, as it must be (0 s)\n")
         # What an earlier run left is not counted.
@@ -227,24 +237,35 @@ class Progress(Repository):
         """A line that moves, cut to the width, and what failed."""
         ours, theirs = pty.openpty()
         fcntl.ioctl(theirs, termios.TIOCSWINSZ, struct.pack("HHHH", 24, 28, 0, 0))
-        given = self.environment(SLEEP="1.4", VERDICT="NOT PROVED (exit 1, 0 s)", STATUS="3")
+        given = self.environment(HOLD="log/ntp5.say", VERDICT="NOT PROVED (exit 1, 0 s)", STATUS="3")
+        self.held(3)
         run = subprocess.Popen(("tools/progress", "lib", "check", "ntp5"), cwd=self.top, env=given, stderr=theirs)
         status = run.wait(timeout=60)
         os.close(theirs)
         shown = everything(ours)
         moving, _, rest = shown.partition("\r\x1b[K")
         self.assertEqual(status, 3)
-        self.assertRegex(moving, r"^\rlib: 0 of 3 done, 0:0\d: n\.\.\x1b\[K$")
+        self.assertRegex(moving, r"^(\rlib: 0 of 3 done, 0:0\d: n\.\.\x1b\[K)+$")
         self.assertEqual(rest.splitlines(), [
             "lib: rt check ended with status 3; target/log/lib.log has all that it printed, among it:",
             "  rt: ntp5 NOT PROVED (exit 1, 0 s)"])
 
+    def test_log_is_kept(self):
+        """Also where it can't be put in its place."""
+        self.write("target", "a file")
+        status, printed = self.run_in("tools/progress", "lib", "check", "ntp5", STATUS="1")
+        log = pathlib.Path(re.search(r"status 1; (\S+) has all", printed)[1])
+        self.addCleanup(shutil.rmtree, log.parent)
+        self.assertEqual((status, "rt: ntp5 proved" in log.read_text()), (1, True))
+
     def test_interrupt(self):
         """Neither rt nor what it started is left."""
         for name in (signal.SIGINT, signal.SIGTERM):
-            run = subprocess.Popen(("tools/progress", "lib", "check", "ntp5"), cwd=self.top, env=self.environment(SLEEP="60"),
+            run = subprocess.Popen(("tools/progress", "lib", "check", "ntp5"), cwd=self.top, env=self.environment(HOLD="log/ntp5.say"),
                                    stderr=subprocess.PIPE, text=True, start_new_session=True)
+            end = time.monotonic() + 30
             while not (self.top / "target/log/ntp5.say").exists():
+                self.assertLess(time.monotonic(), end)
                 time.sleep(0.05)
             self.assertNotEqual(working_in(self.top), [])
             os.killpg(run.pid, name)

@@ -101,7 +101,7 @@ def storing(lines):
 
 
 def refusing(lines):
-    lines.group("Answer: refusals in the page's order, 6, 1, 2, 3, 4 and 5, 13, 8, 11; none changes the store", 2)
+    lines.group("Answer: refusals in their order, 6, 1, 2, 3, 4 and 5, 13, 8, 11; none changes the store", 2)
     lines.answer(wanted(), fresh=7)
     bad = wanted()[:-2]
     for given in ({"leap": 4}, {"receive": 0}, {"estimate": 0}, {"filter_octets": FILTER[1:]}, {"filter_octets": b""},

@@ -1,13 +1,10 @@
 #!/usr/bin/env python3
 """Shows what tools/story.py makes of words and lines."""
-import pathlib
 import sys
 import unittest
 
-sys.dont_write_bytecode = True      # no generated folder beside the sources
-sys.path.insert(0, str(pathlib.Path(__file__).resolve().parent.parent / "tools"))
-import story                     # noqa: E402
-from counted import counted     # noqa: E402
+from counted import counted     # the first: it lets tools/ be imported from
+import story
 
 
 class Story(unittest.TestCase):

@@ -5,16 +5,13 @@ Without it a check that refuses nothing any more would go unnoticed.
 """
 import contextlib
 import io
-import pathlib
 import sys
 import unittest
 
-sys.dont_write_bytecode = True      # no generated folder beside the sources
-sys.path.insert(0, str(pathlib.Path(__file__).resolve().parent.parent / "tools"))
-import claims                   # noqa: E402
-import contracts                # noqa: E402
-import verdicts                 # noqa: E402
-from counted import counted     # noqa: E402
+from counted import counted     # the first: it lets tools/ be imported from
+import claims
+import contracts
+import verdicts
 
 RULES = {"crates/own/specs/Rules.antt": {"cleared", "sizeOf", "twice"}, "crates/below/specs/Base.antt": {"base"}}
 USES = """

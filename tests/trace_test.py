@@ -1,13 +1,10 @@
 #!/usr/bin/env python3
 """Shows that tools/trace.py refuses what it is for: small wrong pages and citations, and right ones."""
-import pathlib
 import sys
 import unittest
 
-sys.dont_write_bytecode = True      # no generated folder beside the sources
-sys.path.insert(0, str(pathlib.Path(__file__).resolve().parent.parent / "tools"))
-import trace                     # noqa: E402
-from counted import counted     # noqa: E402
+from counted import counted     # the first: it lets tools/ be imported from
+import trace
 
 
 RULES_PAGE = """
