@@ -253,10 +253,10 @@ class Progress(Repository):
     def test_log_is_kept(self):
         """Also where it can't be put in its place."""
         self.write("target", "a file")
-        status, printed = self.run_in("tools/progress", "lib", "check", "ntp5", STATUS="1")
-        log = pathlib.Path(re.search(r"status 1; (\S+) has all", printed)[1])
+        status, printed = self.run_in("tools/progress", "lib", "check", "ntp5")
+        log = pathlib.Path(re.search(r"status \d; (\S+) has all", printed)[1])
         self.addCleanup(shutil.rmtree, log.parent)
-        self.assertEqual((status, "rt: ntp5 proved" in log.read_text()), (1, True))
+        self.assertTrue(status != 0 and "mkdir" in log.read_text())
 
     def test_interrupt(self):
         """Neither rt nor what it started is left."""
