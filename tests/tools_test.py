@@ -1,5 +1,6 @@
 #!/usr/bin/env python3
-"""Shows that tools/contracts.py, claims.py and verdicts.py refuse what they are for: each gets small wrong texts, and right ones.
+"""Shows that tools/contracts.py, claims.py, verdicts.py and refused_by_fact.py refuse what they are for: each gets small wrong texts,
+and right ones.
 
 Without it a check that refuses nothing any more would go unnoticed.
 """
@@ -11,6 +12,7 @@ import unittest
 from counted import counted     # the first: it lets tools/ be imported from
 import claims
 import contracts
+import refused_by_fact
 import verdicts
 
 RULES = {"crates/own/specs/Rules.antt": {"cleared", "sizeOf", "twice"}, "crates/below/specs/Base.antt": {"base"}}
@@ -226,6 +228,25 @@ class Claims(unittest.TestCase):
         self.refused("no closed type", page=PAGE + "| `own/specs/Rules.antt:Gone` | A type. |\n")
 
 
+class Refusals(unittest.TestCase):
+    FACT = "specs/Law.antt:3:5: error: `law`: expected `1 ≡ 2`, but this has type `1 ≡ 1`"
+
+    def test_first_error(self):
+        follows = "proofs/Use.antt:1:1: error: `law` was not admitted, so this cannot be checked"
+        self.assertEqual(refused_by_fact.first_error(f"note: x\n{follows}\n{self.FACT}\nsrc/lib.rt:1: error: y\n"), self.FACT)
+        self.assertEqual(refused_by_fact.first_error("fn own::f: no proof: expected a file\n"), "fn own::f: no proof: expected a file")
+        self.assertEqual(refused_by_fact.first_error(f"logic=not-proved\n{follows}\n"), "")
+
+    def test_facts(self):
+        for error in (self.FACT, "fn own::f: no proof: expected a file; `search` does not close `Need-a`"):
+            self.assertTrue(refused_by_fact.is_fact(error), error)
+        for reason in ("`tie` has no `Need-a`", "`Code` has no `calls-f` that can be named from here", "has no field `size`", "`x` is not in scope",
+                       "Scope: x", "Parse: x", "`f` takes 2 arguments", "expected type `tie.Need-a`, but this has type `tie.Need-b`"):
+            self.assertFalse(refused_by_fact.is_fact(f"proofs/f/Proof.antt:1:1: error: {reason}"), reason)
+        for error in ("", "fn own::f: no proof: expected a file"):
+            self.assertFalse(refused_by_fact.is_fact(error), error)
+
+
 class Verdicts(unittest.TestCase):
     RIGHT = "logic=proved functions=3 sum=09af native=nat,char,string logic-built=trusted libraries-built=trusted"
 
@@ -245,4 +266,4 @@ class Verdicts(unittest.TestCase):
 
 
 if __name__ == "__main__":
-    sys.exit(counted("the checks of contracts, claims and verdicts"))
+    sys.exit(counted("the checks of contracts, claims, verdicts and refusals"))

@@ -16,10 +16,9 @@ UNFIT = re.compile(
 )
 
 
-def first_error(log):
-    """The first line that blames something of its own, and not what it follows from."""
-    with open(log, encoding="utf-8", errors="replace") as text:
-        errors = [line for line in text.read().split("\n") if ": error" in line or (line.startswith("fn ") and "no proof" in line)]
+def first_error(text):
+    """The first line of a log that blames something of its own, and not what it follows from."""
+    errors = [line for line in text.split("\n") if ": error" in line or (line.startswith("fn ") and "no proof" in line)]
     own = [line for line in errors if "was not admitted" not in line]
     return own[0] if own else ""
 
@@ -36,7 +35,8 @@ def main():
     edits = glob.glob(os.path.join(root, "crates/*/must-fail/*.edit"))
     unfit = 0
     for log in logs:
-        error = first_error(log)
+        with open(log, encoding="utf-8", errors="replace") as text:
+            error = first_error(text.read())
         if not is_fact(error):
             unfit += 1
             crate, label = log.split(os.sep)[-3:-1]
