@@ -2,8 +2,8 @@
  * An NTPv5 time unit (draft-mlichvar-ntp-ntpv5-07) for a main loop in C: a client of up to sixteen servers, a responder with
  * interleaved mode, and reference-ID filters that show when a controller follows its own clock. Link with libntp5.a.
  *
- * TARGET: x86-64 Linux, the one target of the Rattle kit's compiler. The proofs are of the source, and are the same on the
- * kit's other machine, Arm; an archive for another processor needs the kit's back end for it. What linker and caller meet:
+ * TARGET: x86-64 Linux, the one target of the Rattle kit's compiler. The proofs are of the source, and the kit's prover also
+ * runs on Arm; an archive for another processor needs the kit's back end for it. What linker and caller meet:
  *   - it needs memcpy, memmove and memset and nothing else; it is position-independent and has no data that are written;
  *   - it uses the SSE registers and the red zone below the stack pointer: call it neither from an interrupt handler that
  *     does not save the SSE registers nor on a stack whose red zone something else writes to, as a kernel's;
