@@ -14,6 +14,7 @@ enum {
     SOURCE = 0,                        /* the association for the other controller; a real client has up to sixteen */
     CHUNK = 128,                       /* filter octets in each answer */
     PASS = NTP5_FILTER_OCTETS / CHUNK, /* polls in which every chunk of the other's filter comes once */
+    TABLE = NTP5_TABLE_AT_MOST / sizeof(uint64_t),
     STORE = 8 * NTP5_STORE_RECORD
 };
 
@@ -21,7 +22,7 @@ typedef struct {
     const char *name;
     const char *other;                   /* the controller that it polls */
     uint8_t id[NTP5_ID_OCTETS];          /* drawn at random once, at start */
-    uint8_t table[NTP5_TABLE_AT_MOST];   /* as a client; only the first ntp5_table_octets() octets are lent */
+    uint64_t table[TABLE];               /* as a client; only the first ntp5_table_words() numbers are lent */
     uint8_t store[STORE];                /* as a server: transmit times of its answers */
     uint8_t filter[NTP5_FILTER_OCTETS];  /* as a server: what it publishes of whom it follows */
     uint16_t selected;                   /* the associations that its clock follows, a bit for each */
@@ -49,7 +50,7 @@ static inline void accepted(const char *file, int line, const char *what, unsign
 static inline void publish(controller *c)
 {
     ntp5_written w =
-        ntp5_publish(c->table, ntp5_table_octets(), c->selected, c->id, sizeof c->id, c->filter, sizeof c->filter);
+        ntp5_publish(c->table, ntp5_table_words(), c->selected, c->id, sizeof c->id, c->filter, sizeof c->filter);
     ACCEPTED(w.refusal);
     EXPECT(w.length == NTP5_FILTER_OCTETS);
     ntp5_weight set = ntp5_filter_weight(c->filter, sizeof c->filter);
@@ -74,8 +75,8 @@ static inline void chunk_taken(controller *c)
 /* What a controller does at start: nothing is saved, its one source is open, and its filter has its own ID alone. */
 static inline void start(controller *c)
 {
-    size_t size = ntp5_table_octets();
-    EXPECT(size <= sizeof c->table);
+    size_t size = ntp5_table_words();
+    EXPECT(size <= TABLE);
     ACCEPTED(ntp5_clear(c->table, size));
     ACCEPTED(ntp5_store_clear(c->store, sizeof c->store));
     ACCEPTED(ntp5_open(c->table, size, SOURCE, 0, CHUNK));
@@ -86,7 +87,7 @@ static inline void start(controller *c)
 static inline uint8_t look_for_loop(const controller *c)
 {
     static const char *const says[] = {"?", "incomplete", "loop", "clear"};
-    ntp5_verdict v = ntp5_loop_verdict(c->table, ntp5_table_octets(), SOURCE, c->id, sizeof c->id);
+    ntp5_verdict v = ntp5_loop_verdict(c->table, ntp5_table_words(), SOURCE, c->id, sizeof c->id);
     ACCEPTED(v.refusal);
     printf("%s: verdict on %s: %s\n", c->name, c->other, says[v.verdict]);
     return v.verdict;

@@ -59,8 +59,8 @@ static ntp5_received ask(simulated *client, simulated *server)
 {
     uint8_t request[NTP5_DATAGRAM_AT_MOST];
     uint8_t response[NTP5_DATAGRAM_AT_MOST];
-    uint8_t *table = client->own.table;
-    size_t size = ntp5_table_octets();
+    uint64_t *table = client->own.table;
+    size_t size = ntp5_table_words();
     ntp5_written w = ntp5_poll(table, size, SOURCE, new_cookie(client), 6, true, request, sizeof request);
     ACCEPTED(w.refusal);
     EXPECT(w.length == 84 + CHUNK);
@@ -116,7 +116,7 @@ int main(void)
 
     /* Before the whole filter has come nothing is known, and an incomplete filter is never published. */
     EXPECT(look_for_loop(&left.own) == NTP5_VERDICT_INCOMPLETE);
-    EXPECT(ntp5_publish(left.own.table, ntp5_table_octets(), 1u << SOURCE, left.own.id, sizeof left.own.id, left.own.filter,
+    EXPECT(ntp5_publish(left.own.table, ntp5_table_words(), 1u << SOURCE, left.own.id, sizeof left.own.id, left.own.filter,
                         sizeof left.own.filter).refusal == NTP5_BAD_STATE);
     ask_for_filter(&left, &right, NTP5_VERDICT_INCOMPLETE, NTP5_VERDICT_CLEAR);
     ask_for_filter(&right, &left, NTP5_VERDICT_INCOMPLETE, NTP5_VERDICT_CLEAR);

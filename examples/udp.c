@@ -117,7 +117,7 @@ static void hear(endpoint *e)
         printf("%s: drops %zu octets from a stranger, port %u\n", e->own.name, d.length, ntohs(d.sender.sin_port));
         return;
     }
-    ntp5_received r = ntp5_receive(e->own.table, ntp5_table_octets(), SOURCE, d.octets, d.length, timestamp(d.came));
+    ntp5_received r = ntp5_receive(e->own.table, ntp5_table_words(), SOURCE, d.octets, d.length, timestamp(d.came));
     if (r.refusal != NTP5_OK) {
         bool late = r.refusal == NTP5_NOT_ASKED;
         e->late += late;
@@ -155,11 +155,11 @@ static void ask(endpoint *e)
     uint8_t out[NTP5_DATAGRAM_AT_MOST];
     e->answered = false;
     while (!e->answered) {
-        ntp5_written w = ntp5_poll(e->own.table, ntp5_table_octets(), SOURCE, new_cookie(), 6, true, out, sizeof out);
+        ntp5_written w = ntp5_poll(e->own.table, ntp5_table_words(), SOURCE, new_cookie(), 6, true, out, sizeof out);
         ACCEPTED(w.refusal);
         uint64_t t1 = timestamp(clock_at(CLOCK_REALTIME));
         send_to(e->asking, out, w.length, &e->source);
-        ACCEPTED(ntp5_sent(e->own.table, ntp5_table_octets(), SOURCE, t1));
+        ACCEPTED(ntp5_sent(e->own.table, ntp5_table_words(), SOURCE, t1));
         int64_t until = milliseconds() + ANSWER_WITHIN;
         while (!e->answered && milliseconds() < until)
             turn(e, until);

@@ -11,10 +11,12 @@
  *   - a call takes at most 12 KiB of stack (docs/PERFORMANCE.md has each call's).
  *
  * The library keeps nothing between calls, allocates nothing and calls nothing of the caller's. All state lies in buffers
- * that the caller owns and lends for the time of one call: a pointer and the number of octets behind it.
+ * that the caller owns and lends for the time of one call: a pointer and the number of octets behind it, or, for a table, of
+ * 64-bit numbers.
  *
  * What the caller answers for, in every call:
- *   - a pointer points to as many octets as its length says; NULL is allowed with length 0 only;
+ *   - a pointer points to as many octets as its length says, a table's to as many 64-bit numbers, aligned as uint64_t is;
+ *     NULL is allowed with length 0 only;
  *   - the buffers of one call do not overlap;
  *   - a buffer that a call writes is in no other call at that time (there are no locks).
  * Any contents of a buffer are safe: what is wrong is refused.
@@ -42,10 +44,10 @@
  * The interface's version. The first number changes where a caller has to change, the second where something was added; the
  * README lists what changed.
  */
-#define NTP5_VERSION_MAJOR 2
-#define NTP5_VERSION_MINOR 1
+#define NTP5_VERSION_MAJOR 3
+#define NTP5_VERSION_MINOR 0
 #define NTP5_VERSION_PATCH 0
-#define NTP5_VERSION "2.1.0"
+#define NTP5_VERSION "3.0.0"
 
 #ifdef __cplusplus
 extern "C" {
@@ -101,7 +103,7 @@ enum {
     NTP5_REQUEST = 3,
     NTP5_RESPONSE = 4,
     NTP5_ASSOCIATIONS = 16,
-    NTP5_TABLE_AT_MOST = 16384, /* ntp5_table_octets() gives the size itself */
+    NTP5_TABLE_AT_MOST = 16384, /* octets: uint64_t table[NTP5_TABLE_AT_MOST / sizeof(uint64_t)] has room for any version's */
     NTP5_STORE_RECORD = 16,     /* a store is 1 to 64 of these */
     NTP5_HEADER_OCTETS = 48,
     NTP5_DATAGRAM_AT_MOST = 1280,
@@ -161,28 +163,29 @@ typedef struct {
 /*
  * THE CLIENT TABLE
  *
- * Sixteen associations, one for each server, in one table of exactly ntp5_table_octets() octets. The caller owns it, clears
- * it before anything else, and then leaves its octets to these calls. The caller names the association, 0 to 15, on every
- * call, and for a received datagram finds it by the datagram's source address.
+ * Sixteen associations, one for each server, in one table of exactly ntp5_table_words() numbers of 64 bits. The caller owns
+ * it, clears it before anything else, and then leaves its numbers to these calls. It is declared as uint64_t, since octets
+ * that are cast may not be aligned, and `table_len` counts numbers, not octets. The caller names the association, 0 to 15, on
+ * every call, and for a received datagram finds it by the datagram's source address.
  *
  * Every call refuses with 6 a table of another size, an association above 15, and an association whose numbers in the table
  * are out of range, which can come about only if something else wrote there; clearing checks the size alone.
  */
 
-/* The size of a table, the same at every call. */
-size_t ntp5_table_octets(void);
+/* The size of a table in 64-bit numbers, as `table_len` counts them: the same at every call; in this version 1280, 10240 octets. */
+size_t ntp5_table_words(void);
 
 /* Closes all sixteen associations. Refuses: 6. */
-uint8_t ntp5_clear(uint8_t *table, size_t table_len);
+uint8_t ntp5_clear(uint64_t *table, size_t table_len);
 
 /*
  * Opens an association for a server of this timescale, with an empty filter that will be asked for in chunks of 16, 32, 64,
  * 128, 256 or 512 octets. Refuses: 6 (also another chunk size), 7 if it is open already.
  */
-uint8_t ntp5_open(uint8_t *table, size_t table_len, uint8_t association, uint8_t timescale, uint16_t chunk);
+uint8_t ntp5_open(uint64_t *table, size_t table_len, uint8_t association, uint8_t timescale, uint16_t chunk);
 
 /* Closes an association and forgets all of it. Refuses: 6, 7 if it is not open. */
-uint8_t ntp5_close(uint8_t *table, size_t table_len, uint8_t association);
+uint8_t ntp5_close(uint64_t *table, size_t table_len, uint8_t association);
 
 /*
  * Writes the next request to `out`: 84 octets and the chunk size. It becomes the outstanding request, and an older one is
@@ -190,14 +193,14 @@ uint8_t ntp5_close(uint8_t *table, size_t table_len, uint8_t association);
  * sent, `interleaved` whether an interleaved answer is wanted.
  * Refuses: 6, 7 if not open, 8 for cookie 0 or that of the last request, 11.
  */
-ntp5_written ntp5_poll(uint8_t *table, size_t table_len, uint8_t association, uint64_t client_cookie, int8_t poll,
+ntp5_written ntp5_poll(uint64_t *table, size_t table_len, uint8_t association, uint64_t client_cookie, int8_t poll,
                        bool interleaved, uint8_t *out, size_t out_len);
 
 /*
  * Reports T1, the time at which the outstanding request left, once and before its answer is received.
  * Refuses: 6 (also T1 of 0), 7 if not open, if nothing is outstanding or if T1 was reported already.
  */
-uint8_t ntp5_sent(uint8_t *table, size_t table_len, uint8_t association, uint64_t t1);
+uint8_t ntp5_sent(uint64_t *table, size_t table_len, uint8_t association, uint64_t t1);
 
 /*
  * Takes a datagram that came from the association's server at T4. `datagram` is only read. If it is accepted, the request is
@@ -208,7 +211,7 @@ uint8_t ntp5_sent(uint8_t *table, size_t table_len, uint8_t association, uint64_
  * datagram is refused and not cut to a right length; the same holds for ntp5_answer.
  * Refuses: 6 (also T4 of 0), 7 if not open, 1 to 5, 13, 9 if it does not answer the outstanding request, 10.
  */
-ntp5_received ntp5_receive(uint8_t *table, size_t table_len, uint8_t association, const uint8_t *datagram,
+ntp5_received ntp5_receive(uint64_t *table, size_t table_len, uint8_t association, const uint8_t *datagram,
                            size_t datagram_len, uint64_t t4);
 
 /*
@@ -225,7 +228,7 @@ ntp5_received ntp5_receive(uint8_t *table, size_t table_len, uint8_t association
  *   - the verdict is asked again after every taken chunk, not once; where none comes any more it stays as it is and grows old.
  * Refuses: 6 (also an ID of another size), 7 if not open.
  */
-ntp5_verdict ntp5_loop_verdict(const uint8_t *table, size_t table_len, uint8_t association, const uint8_t *id,
+ntp5_verdict ntp5_loop_verdict(const uint64_t *table, size_t table_len, uint8_t association, const uint8_t *id,
                                size_t id_len);
 
 /*
@@ -237,7 +240,7 @@ ntp5_verdict ntp5_loop_verdict(const uint8_t *table, size_t table_len, uint8_t a
  * In a loop through several controllers each one adds up to a pass of its own, and the time until it publishes again.
  * Refuses: 6 (also an ID of another size), 7 if a selected one is not open or its filter is not complete, 11.
  */
-ntp5_written ntp5_publish(const uint8_t *table, size_t table_len, uint16_t selected, const uint8_t *id, size_t id_len,
+ntp5_written ntp5_publish(const uint64_t *table, size_t table_len, uint16_t selected, const uint8_t *id, size_t id_len,
                           uint8_t *out, size_t out_len);
 
 /*

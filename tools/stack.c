@@ -27,22 +27,22 @@ static const struct row {
     const char *(*input)(size_t n);
     size_t limit;
 } rows[] = {
-    {"ntp5_table_octets", call_table_octets, any, SMALL},
+    {"ntp5_table_words", call_table_words, any, SMALL},
     {"ntp5_clear", call_clear, any, SMALL},
-    {"ntp5_open", call_open, closed, 1200},
-    {"ntp5_close", call_close, opened, 1200},
-    {"ntp5_poll", call_poll, opened, 1330},
-    {"ntp5_sent", call_sent, polled, 1200},
+    {"ntp5_open", call_open, closed, 1100},
+    {"ntp5_close", call_close, opened, 1100},
+    {"ntp5_poll", call_poll, opened, 1230},
+    {"ntp5_sent", call_sent, polled, 1100},
     {"ntp5_receive", call_receive, responses, 12000},
-    {"ntp5_loop_verdict", call_loop_verdict, complete_filter, 370},
-    {"ntp5_publish", call_publish, complete, 930},
+    {"ntp5_loop_verdict", call_loop_verdict, complete_filter, 350},
+    {"ntp5_publish", call_publish, complete, 890},
     {"ntp5_store_clear", call_store_clear, any, SMALL},
     {"ntp5_report", call_report, stored, 100},
     {"ntp5_answer", call_answer, answerable, 12200},
     {"ntp5_header_read", call_header_read, header_alone, 240},
     {"ntp5_header_write", call_header_write, any, 270},
     {"ntp5_sound", call_sound, requests, 11800},
-    {"ntp5_filter_add", call_filter_add, any, 130},
+    {"ntp5_filter_add", call_filter_add, any, 92},
     {"ntp5_filter_union", call_filter_union, any, SMALL},
     {"ntp5_filter_weight", call_filter_weight, any, SMALL},
     {"ntp5_measure", call_measure, any, SMALL},
@@ -109,7 +109,7 @@ int main(void)
     struct sigaction action = {.sa_handler = handle, .sa_flags = SA_ONSTACK};
     size_t calls = sizeof rows / sizeof rows[0], most = 0;
     bool wrong = false;
-    size = ntp5_table_octets();
+    size = ntp5_table_words();
     if (sigaltstack(&own, NULL) != 0 || sigaction(SIGUSR1, &action, NULL) != 0) {
         printf("stack: no stack of its own for a signal handler\n");
         return 1;

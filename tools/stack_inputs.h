@@ -9,16 +9,17 @@
 
 enum { RECORDS = 64, INTERLEAVED = 0x2, WHOLE = 5 /* the input whose chunk is the whole filter */ };
 
-static uint8_t table[NTP5_TABLE_AT_MOST], store[RECORDS * NTP5_STORE_RECORD];
+static uint64_t table[NTP5_TABLE_AT_MOST / sizeof(uint64_t)];
+static uint8_t store[RECORDS * NTP5_STORE_RECORD];
 static uint8_t datagram[NTP5_DATAGRAM_AT_MOST], out[NTP5_DATAGRAM_AT_MOST];
 static uint8_t filter[NTP5_FILTER_OCTETS], other[NTP5_FILTER_OCTETS], id[NTP5_ID_OCTETS], information[NTP5_INFORMATION_OCTETS];
-static size_t size, length;        /* of the table, of the datagram */
+static size_t size, length;        /* of the table in numbers, of the datagram in octets */
 static uint8_t association;
 static uint16_t chunk, selected;
 static uint64_t cookie;            /* the last one; the next is one more */
 static unsigned refusal, expected; /* what the call answered, and what its input asks */
 
-static void call_table_octets(void) { refusal = ntp5_table_octets() != size; }
+static void call_table_words(void) { refusal = ntp5_table_words() != size; }
 static void call_clear(void) { refusal = ntp5_clear(table, size); }
 static void call_open(void) { refusal = ntp5_open(table, size, association, 0, chunk); }
 static void call_close(void) { refusal = ntp5_close(table, size, association); }

@@ -1,27 +1,27 @@
--- What a response that was read from a datagram gives: numbers that fit, and a chunk that lies in it. Assumes nothing.
+-- What a response that was read from a datagram gives: numbers that fit, and a chunk of octets that lies in it. Assumes nothing.
 use mathlib.Core.Path.{_≡_, refl, _∙_}
 use mathlib.Core.Bool.{Bool, true, false, cond}
-use mathlib.Core.List.{List}
+use mathlib.Core.List.{List, _++_}
 use Prim.Native.Nat.{ℕ, _+_, _^_, _≤_, _<_}
 use native.Mathlib.Omega.{arith}
 use borrow.Author.Tests.{eqb-true, le-leb, leb-true}
 use lib.Dec.{eqb, leb}
 use lib.ListN.{length, take, drop, length-take, length-drop}
 use lib.Seq.{paste, length-paste, take-take}
+use Rattle.octets.specs.Number.{Octets}
 use Rattle.octets.specs.Part.{copyAt}
 use Rattle.octets.proofs.Parts.{overwritten}
+use Rattle.octets.proofs.Written.{both-octets, take-octets, drop-octets}
 use Rattle.exchange.specs.Judging.{outcomeOf}
 use Rattle.exchange.specs.declared.response.Response.{Response}
 use Rattle.octets.proofs.Tests.{by-test}
 
--- a response's numbers fit, and its chunk lies in the datagram
+-- a response's timescale and server cookie fit, and its chunk lies in the datagram, which is of octets
 pub record GoodResponse (r : Response) (datagram : List ℕ) : Type 0 where
   pub timescale : r .timescale < 256
   pub server : r .server .0 < 2 ^ 64
-  pub receive : r .receive < 2 ^ 64
-  pub transmit : r .transmit < 2 ^ 64
-  pub t4 : r .t4 < 2 ^ 64
   pub inside : r .start + r .size ≤ length datagram
+  pub octets : Octets datagram
 
 -- a chunk is taken exactly where the first 0xF504 has c data octets
 pub taken-length : (r : Response) (c : ℕ) → eqb (outcomeOf r c) 1 ≡ true → r .size ≡ c
@@ -61,3 +61,13 @@ length-copied s to source from n =
   where
     Same : List ℕ → Type 0
     Same l = length l ≡ length s
+
+pub octets-copied : (s : List ℕ) (to : ℕ) (source : List ℕ) (from n : ℕ) → Octets s → Octets source → Octets (copyAt s to source from n)
+octets-copied s to source from n f g =
+    by-test Octets (leb (from + n) (length source))
+    (λ t. by-test Octets (leb (to + n) (length s))
+    (λ u. both-octets (take to s ++ take n (drop from source)) (drop (to + n) s)
+    (both-octets (take to s) (take n (drop from source)) (take-octets to s f) (take-octets n (drop from source) (drop-octets from source g)))
+    (drop-octets (to + n) s f))
+    (λ u. f))
+    (λ t. f)

@@ -28,7 +28,7 @@ fn refill(file: i32, name: &[u8], text: &mut [u8], state: Line) -> Line {
 }
 
 // Runs the line if it has ended.
-fn finish(rows: &[u8], line: &[u8], state: Line, table: &mut [u8], kept: &mut [u8]) -> Line {
+fn finish(rows: &[u8], line: &[u8], state: Line, table: &mut [u64], kept: &mut [u8]) -> Line {
     if !state.ended {
         return state;
     }
@@ -56,7 +56,7 @@ fn finish(rows: &[u8], line: &[u8], state: Line, table: &mut [u8], kept: &mut [u
 pub(crate) fn run_all(file: i32, name: &[u8], rows: &[u8]) {
     let mut text = io::large_buffer();
     let mut line = io::large_buffer();
-    let mut table = [0u8; 10240];
+    let mut table = [0u64; 1280];
     let mut kept = [0u8; 4098];
     let mut state = Line {
         number: 1,

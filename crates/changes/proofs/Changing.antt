@@ -7,7 +7,7 @@ use lib.IntN.{ℤ}
 use borrow.Author.Tests.{ne-eqb}
 use Rattle.words.specs.Line.{numberAt, bitsAt, signedAt, octetsAt}
 use Rattle.client_rules.specs.Call.{Call, Answer, clearTable, openOne, closeOne, poll, sent, receive}
-use Rattle.client_rules.specs.Octets.{stepOctets}
+use Rattle.client_rules.specs.Numbers.{stepNumbers}
 use Rattle.changes.specs.Change.{interleavedAt, pollOf, receiveOf, changeOf, callOf, tableAfter}
 
 module _ (line : List ℕ) where
@@ -51,9 +51,9 @@ module _ (line : List ℕ) (call : ℕ) where
   call-change k l = rw (ne-eqb call 10 k, ne-eqb call 12 l)
 
 -- the table that a call leaves, where it is another call's
-pub left : (r : Answer) (t t′ : List ℕ) (x y : Call) → x ≡ y → (r, t′) ≡ stepOctets x t → t′ ≡ stepOctets y t .1
-left r t t′ x y e z = ap (λ (w : Answer × List ℕ). w .1) z ∙ ap (λ (v : Call). stepOctets v t .1) e
+pub left : (r : Answer) (t t′ : List ℕ) (x y : Call) → x ≡ y → (r, t′) ≡ stepNumbers x t → t′ ≡ stepNumbers y t .1
+left r t t′ x y e z = ap (λ (w : Answer × List ℕ). w .1) z ∙ ap (λ (v : Call). stepNumbers v t .1) e
 
-pub after : (line t t′ : List ℕ) (call : ℕ) (x : Call) → x ≡ callOf call line → t′ ≡ stepOctets x t .1 → t′ ≡ tableAfter call line t
+pub after : (line t t′ : List ℕ) (call : ℕ) (x : Call) → x ≡ callOf call line → t′ ≡ stepNumbers x t .1 → t′ ≡ tableAfter call line t
 unfolding tableAfter
-after line t t′ call x e z = z ∙ ap (λ (v : Call). stepOctets v t .1) e
+after line t t′ call x e z = z ∙ ap (λ (v : Call). stepNumbers v t .1) e

@@ -6,7 +6,7 @@ use lib.Dec.{eqb}
 use Rattle.words.specs.Line.{numberAt, bitsAt, signedAt, octetsAt}
 use Rattle.text.specs.Place.{pieceOf, sameOf}
 use Rattle.client_rules.specs.Call.{Call, clearTable, openOne, closeOne, poll, sent, receive}
-use Rattle.client_rules.specs.Octets.{stepOctets}
+use Rattle.client_rules.specs.Numbers.{stepNumbers}
 
 -- a word is `interleaved`; any other is basic
 abbrev pub interleavedAt : List ℕ → ℕ → Bool
@@ -32,4 +32,4 @@ abbrev pub callOf : ℕ → List ℕ → Call
 callOf call line = cond (eqb call 10) (pollOf line) (cond (eqb call 12) (receiveOf line) (changeOf call line))
 
 unfoldable pub tableAfter : ℕ → List ℕ → List ℕ → List ℕ
-tableAfter call line table = stepOctets (callOf call line) table .1
+tableAfter call line table = stepNumbers (callOf call line) table .1

@@ -12,7 +12,7 @@ use words::octet_word::octets_of;
 ghost use mathlib.Core.Path.{_≡_};
 ghost use mathlib.Core.List.{[]};
 ghost use Rattle.client_rules.specs.Call.{plainAnswer};
-ghost use Rattle.client_rules.specs.Octets.{stepOctets};
+ghost use Rattle.client_rules.specs.Numbers.{stepNumbers};
 ghost use Rattle.client.specs.Answers.{isInterleaved};
 ghost use Rattle.changes.specs.Change.{interleavedAt, pollOf, receiveOf, changeOf, tableAfter};
 
@@ -26,8 +26,8 @@ fn mode_at(line: &[u8], word: usize) -> client::Mode
 }
 
 // The calls whose result is a refusal or 0.
-fn change(call: usize, line: &[u8], table: &mut [u8]) -> u8
-    ensures { λ r. ⌜ (plainAnswer r [], now (table .exit)) ≡ stepOctets (changeOf call (now (line .entry))) (now (table .entry)) ⌝ }
+fn change(call: usize, line: &[u8], table: &mut [u64]) -> u8
+    ensures { λ r. ⌜ (plainAnswer r [], now (table .exit)) ≡ stepNumbers (changeOf call (now (line .entry))) (now (table .entry)) ⌝ }
 {
     let first = u8_at(line, 1);
     match call {
@@ -39,8 +39,8 @@ fn change(call: usize, line: &[u8], table: &mut [u8]) -> u8
 }
 
 // poll A COOKIE EXPONENT MODE OUTPUT
-fn poll(row: &[u8], line: &[u8], table: &mut [u8])
-    ensures { λ _. ⌜ now (table .exit) ≡ stepOctets (pollOf (now (line .entry))) (now (table .entry)) .1 ⌝ }
+fn poll(row: &[u8], line: &[u8], table: &mut [u64])
+    ensures { λ _. ⌜ now (table .exit) ≡ stepNumbers (pollOf (now (line .entry))) (now (table .entry)) .1 ⌝ }
 {
     let mut room = [0u8; 4096];
     let output = octets_of(piece(line, 5, b' '), &mut room);
@@ -56,8 +56,8 @@ fn poll(row: &[u8], line: &[u8], table: &mut [u8])
 }
 
 // receive A T4 OCTETS
-fn receive(row: &[u8], line: &[u8], table: &mut [u8])
-    ensures { λ _. ⌜ now (table .exit) ≡ stepOctets (receiveOf (now (line .entry))) (now (table .entry)) .1 ⌝ }
+fn receive(row: &[u8], line: &[u8], table: &mut [u64])
+    ensures { λ _. ⌜ now (table .exit) ≡ stepNumbers (receiveOf (now (line .entry))) (now (table .entry)) .1 ⌝ }
 {
     let mut room = [0u8; 4096];
     let datagram = octets_of(piece(line, 3, b' '), &mut room);
@@ -66,7 +66,7 @@ fn receive(row: &[u8], line: &[u8], table: &mut [u8])
 }
 
 // The call of this number, and its result. What is printed is outside the logic.
-pub fn run(call: usize, row: &[u8], line: &[u8], table: &mut [u8])
+pub fn run(call: usize, row: &[u8], line: &[u8], table: &mut [u64])
     ensures { λ _. ⌜ now (table .exit) ≡ tableAfter call (now (line .entry)) (now (table .entry)) ⌝ }
 {
     match call {

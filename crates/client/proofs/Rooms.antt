@@ -10,17 +10,18 @@ use lib.ListN.{length, drop}
 use Rattle.poll_request.specs.Request.{pollLength}
 use Rattle.poll_request.proofs.Requests.{Writable}
 use Rattle.state.specs.Range.{inRange}
+use Rattle.word_rules.specs.Words.{octetsOf}
 use Rattle.association.specs.Record.{headOf, headSize, recordSize}
 use Rattle.state.specs.Plain.{Place, isLast, placeDo}
 use Rattle.state.specs.Numbers.{cookieIn, placeIn}
 use Rattle.association.specs.Encode.{decode}
-use Rattle.association.specs.Step.{onOctets}
+use Rattle.association.specs.Step.{onNumbers}
 use Rattle.state.specs.declared.event.Event.the-variants.{Poll}
 use Rattle.state.specs.declared.event.Reply.{Reply}
 use Rattle.state.specs.declared.head.Head.{Head}
 use Rattle.state.proofs.Chunks.{chunk-size}
 use Rattle.state.proofs.Ranges.{open-ranges}
-use Rattle.client_rules.specs.Octets.{tableSize, part, atOctets}
+use Rattle.client_rules.specs.Numbers.{tableSize, part, atNumbers}
 use Rattle.client_rules.specs.Step.{eventOn}
 use Rattle.octets.proofs.Tests.{by-test}
 
@@ -41,14 +42,14 @@ module _ (cookie : ℕ) (interleaved : Bool) (room : ℕ) where
       let size = chunk-size (h .chunk) (open-ranges h g (eqb-false _ _ t) .chunk) in
       record { least = size .low; most = size .high; four = size .fours; fits = ltb-false _ _ v })))
 
-  record-room : (datagram l : List ℕ) → Fits (onOctets (Poll (record { 0 = cookie }) interleaved room) datagram l .0)
-  unfolding onOctets decode
+  record-room : (datagram l : List ℕ) → Fits (onNumbers (Poll (record { 0 = cookie }) interleaved room) datagram l .0)
+  unfolding onNumbers decode
   record-room datagram l =
       by-test (λ (w : Reply × List ℕ). Fits (w .0)) (eqb (length l) recordSize && inRange (headOf l))
-      (λ t. head-room (headOf l) datagram (drop headSize l) (and-eq-true-iff (eqb (length l) recordSize) (inRange (headOf l)) .0 t .1))
+      (λ t. head-room (headOf l) datagram (octetsOf (drop headSize l)) (and-eq-true-iff (eqb (length l) recordSize) (inRange (headOf l)) .0 t .1))
       (λ t z. absurd (omega arith))
 
-  pub poll-room : (a : ℕ) (datagram t : List ℕ) → Fits (atOctets a (Poll (record { 0 = cookie }) interleaved room) datagram t .0)
+  pub poll-room : (a : ℕ) (datagram t : List ℕ) → Fits (atNumbers a (Poll (record { 0 = cookie }) interleaved room) datagram t .0)
   unfolding eventOn
   poll-room a datagram t =
       by-test (λ (w : Reply × List ℕ). Fits (w .0)) (eqb (length t) tableSize && ltb a 16) (λ u. record-room datagram (part a t)) (λ u z. absurd (omega arith))

@@ -14,12 +14,12 @@ use Rattle.state.specs.Plain.{newlyOpened, polled, placeDo}
 use Rattle.order.specs.Order.{TaggedCall, after, EveryCall}
 use Rattle.client_rules.specs.Call.{Call, openOne, poll, Typed}
 use Rattle.client_rules.specs.Step.{eventOn}
-use Rattle.client_rules.specs.Octets.{tableSize, encodeAll}
+use Rattle.client_rules.specs.Numbers.{tableSize, encodeAll}
 use Rattle.client_rules.specs.Plain.{closedTable}
 use Rattle.client_rules.specs.Claim.{placeAfter, Acceptable}
 use Rattle.client_rules.proofs.Tables.{length-table, good-start}
 
--- a table of the right size; nobody looks at its octets
+-- a table of the right size; nobody looks at its numbers
 abbrev pub zeros : List ℕ
 zeros = encodeAll closedTable
 

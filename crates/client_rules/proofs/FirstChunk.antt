@@ -2,33 +2,34 @@
 use mathlib.Core.Path.{_≡_, refl, sym, ap, _∙_, subst}
 use mathlib.Core.Bool.{Bool, false, cond}
 use mathlib.Core.List.{List, [], _∷_, _++_}
-use Prim.Native.Nat.{ℕ, _+_, _<_}
+use Prim.Native.Nat.{ℕ, _<_}
 use native.Mathlib.Omega.{arith}
 use borrow.Author.Tests.{eq-eqb, ne-eqb}
 use lib.Dec.{eqb}
 use lib.IntN.{pos}
-use lib.ListN.{length, getD, take, drop, List·getD-append, length-append, length-take, length-drop}
-use lib.Seq.{getD-append-add}
+use lib.ListN.{length, getD, take, drop, length-append, length-take, length-drop}
+use lib.Seq.{take-at, drop-at}
 use Rattle.octets.specs.Number.{num}
 use Rattle.octets.proofs.Written.{zeros-octets}
 use Rattle.header.specs.Header.{headerOf, refusal}
 use Rattle.chain.specs.Chain.{allZero, stepAt, walkFor, walk, chainRefusal, soundRefusal}
 use Rattle.chain.specs.Field.{firstOf}
 use Rattle.exchange.specs.Response.{responseOf}
-use Rattle.association.specs.Record.{headOf}
-use Rattle.association.proofs.Encoding.{head-encode, filter-encode, length-encode}
+use Rattle.word_rules.specs.Words.{octetsOf}
+use Rattle.association.specs.Record.{headOf, headSize, recordSize}
+use Rattle.association.proofs.Encoding.{head-encode, length-encode}
 use Rattle.state.specs.Plain.{Outstanding, Opened, Place, closed, opened, newlyOpened, polled, received, placeDo, placeFilter}
 use Rattle.state.specs.Numbers.{countTaken, placeHead}
 use Rattle.state.specs.declared.head.Head.{Head}
 use Rattle.order.specs.Order.{TaggedCall, after, EveryCall, Distinct}
 use Rattle.client_rules.specs.Call.{Call, clearTable, openOne, closeOne, poll, sent, receive, loopVerdict, publish, Typed, Answer}
 use Rattle.client_rules.specs.Step.{eventOn}
-use Rattle.client_rules.specs.Octets.{part, encodeAll, stepOctets}
+use Rattle.client_rules.specs.Numbers.{part, filterWords, filterOctet, encodeAll, stepNumbers}
 use Rattle.client_rules.specs.Plain.{closedTable, stepPlain}
 use Rattle.client_rules.specs.Observe.{Observation, observedOctet, watched}
 use Rattle.client_rules.specs.Claim.{placeAfter, Filters, ForEveryList}
 use Rattle.client_rules.specs.Idle.{withFilter, firstPlaced, placesFirst}
-use Rattle.client_rules.proofs.Tables.{GoodTable, part-all, good-at, good-start}
+use Rattle.client_rules.proofs.Tables.{GoodTable, part-all, filter-holds, good-start}
 use Rattle.client_rules.proofs.Observed.{Watching, Watched, entry}
 use Rattle.client_rules.proofs.Demand3.{simulates, run-watched, closed-watched, cleared-is, good-reached}
 use Rattle.client_rules.proofs.Exchange.{zeros, size, datagram, datagram-octets, room, tagged}
@@ -52,8 +53,7 @@ AllAsOurs (x ∷ cs) ps = AsOurs (x .call) ps × AllAsOurs cs (stepPlain (x .cal
 taken-at : (ps : List Place) (a : ℕ) → GoodTable ps → a < 16 → headOf (part a (encodeAll ps)) .taken ≡ placeHead (getD ps a closed) .taken
 taken-at ps a g h =
     let l : a < length ps = omega (arith, g .sixteen) in
-    ap (λ (x : List ℕ). headOf x .taken) (part-all ps a (g .all) l)
-    ∙ ap (λ (x : Head). x .taken) (head-encode (getD ps a closed) (good-at ps a (g .all)))
+    ap (λ (x : List ℕ). headOf x .taken) (part-all ps a l) ∙ ap (λ (x : Head). x .taken) (head-encode (getD ps a closed))
 
 as-ours : (c : Call) (ps : List Place) (u : List ℕ) → GoodTable ps → AsOurs c ps → firstPlaced c (encodeAll ps) u ≡ u
 as-ours clearTable ps u g h = refl
@@ -83,26 +83,23 @@ module _ (x : TaggedCall Call) where
   unfolding watched
   seen-ours [] ps seen t k g h = ap (λ (w : Answer × List ℕ). entry (x .call) (w .0) ∷ seen) (simulates .agrees (x .call) ps k g)
   seen-ours (y ∷ cs) ps seen t k g h =
-      ap (λ (u : List ℕ). watched placesFirst (cs ++ (x ∷ [])) u (entry (y .call) (stepOctets (y .call) (encodeAll ps) .0) ∷ seen)) (step-ours (y .call) ps (t .0) g (h .0))
+      ap (λ (u : List ℕ). watched placesFirst (cs ++ (x ∷ [])) u (entry (y .call) (stepNumbers (y .call) (encodeAll ps) .0) ∷ seen)) (step-ours (y .call) ps (t .0) g (h .0))
       ∙ ap (λ (w : Answer × List ℕ). watched placesFirst (cs ++ (x ∷ [])) (encodeAll (stepPlain (y .call) ps .1)) (entry (y .call) (w .0) ∷ seen)) (simulates .agrees (y .call) ps (t .0) g)
       ∙ seen-ours cs (stepPlain (y .call) ps .1) _ (t .1) k (simulates .invariant (y .call) ps (t .0) g) (h .1)
 
--- a filter octet of association 0 is then the one from before
-octet-kept : (ps qs : List Place) (i : ℕ) → GoodTable ps → GoodTable qs → i < 512
-    → getD (withFilter 0 (encodeAll ps) (encodeAll qs)) (128 + i) 0 ≡ getD (placeFilter (getD ps 0 closed)) i 0
+-- the filter of association 0 is then the one from before
+filter-kept : (ps qs : List Place) → GoodTable ps → GoodTable qs
+    → octetsOf (filterWords 0 (withFilter 0 (encodeAll ps) (encodeAll qs))) ≡ placeFilter (getD ps 0 closed)
 unfolding withFilter
-octet-kept ps qs i g k h =
-    let head = take 128 (part 0 (encodeAll qs)) in
-    let filter = drop 128 (part 0 (encodeAll ps)) in
-    let p = part-all ps 0 (g .all) (omega (arith, g .sixteen)) in
-    let q = part-all qs 0 (k .all) (omega (arith, k .sixteen)) in
-    let m : length (part 0 (encodeAll ps)) ≡ 640 = ap length p ∙ length-encode _ (good-at ps 0 (g .all)) in
-    let n : length (part 0 (encodeAll qs)) ≡ 640 = ap length q ∙ length-encode _ (good-at qs 0 (k .all)) in
-    let u : length head ≡ 128 = omega (arith, length-take 128 (part 0 (encodeAll qs))) in
-    let v : length filter ≡ 512 = omega (arith, length-drop 128 (part 0 (encodeAll ps))) in
-    List·getD-append (head ++ filter) (drop 640 (encodeAll qs)) 0 (128 + i) (omega (arith, length-append head filter))
-    ∙ ap (λ (j : ℕ). getD (head ++ filter) (j + i) 0) (sym u) ∙ getD-append-add head filter i 0
-    ∙ ap (λ (x : List ℕ). getD (drop 128 x) i 0) p ∙ ap (λ (x : List ℕ). getD x i 0) (filter-encode (getD ps 0 closed))
+filter-kept ps qs g k =
+    let head = take headSize (part 0 (encodeAll qs)) in
+    let words = filterWords 0 (encodeAll ps) in
+    let m : length (part 0 (encodeAll ps)) ≡ recordSize = ap length (part-all ps 0 (omega (arith, g .sixteen))) ∙ length-encode _ in
+    let n : length (part 0 (encodeAll qs)) ≡ recordSize = ap length (part-all qs 0 (omega (arith, k .sixteen))) ∙ length-encode _ in
+    let u : length head ≡ headSize = omega (arith, length-take headSize (part 0 (encodeAll qs))) in
+    let v : length words ≡ 64 = omega (arith, length-drop headSize (part 0 (encodeAll ps))) in
+    ap (λ (l : List ℕ). octetsOf (drop headSize l)) (take-at (head ++ words) (drop recordSize (encodeAll qs)) recordSize (omega (arith, length-append head words)))
+    ∙ ap octetsOf (drop-at head words headSize u) ∙ filter-holds ps 0 g (omega arith)
 
 -- two polls and their responses; the second one's chunk begins with 1, and goes to offset 16
 abbrev before : List (TaggedCall Call)
@@ -167,18 +164,18 @@ abbrev ps : List Place
 ps = after stepPlain before closedTable
 
 -- the table has the octet from before there
-octet-left : getD (after placesFirst (before ++ (second ∷ [])) (encodeAll closedTable)) (128 + 16) 0 ≡ 0
+octet-left : filterOctet 0 16 (after placesFirst (before ++ (second ∷ [])) (encodeAll closedTable)) ≡ 0
 octet-left =
     let good = good-reached before before-typed in
     let c = second .call in
     let taken : headOf (part 0 (encodeAll ps)) .taken ≡ 16 = taken-at ps 0 good (omega arith) ∙ once-taken in
-    let same : stepOctets c (encodeAll ps) .1 ≡ encodeAll (stepPlain c ps .1) = ap (λ (w : Answer × List ℕ). w .1) (simulates .agrees c ps second-typed good) in
+    let same : stepNumbers c (encodeAll ps) .1 ≡ encodeAll (stepPlain c ps .1) = ap (λ (w : Answer × List ℕ). w .1) (simulates .agrees c ps second-typed good) in
     let later : eqb (headOf (part 0 (encodeAll ps)) .taken) 0 ≡ false = ne-eqb (headOf (part 0 (encodeAll ps)) .taken) 0 (λ z. omega arith) in
     let end : placesFirst c (encodeAll ps) .1 ≡ withFilter 0 (encodeAll ps) (encodeAll (stepPlain c ps .1)) =
-    ap (λ (b : Bool). cond b (stepOctets c (encodeAll ps) .1) (withFilter 0 (encodeAll ps) (stepOctets c (encodeAll ps) .1))) later ∙ ap (withFilter 0 (encodeAll ps)) same in
-    ap (λ (u : List ℕ). getD u (128 + 16) 0) (end-ours second before closedTable before-typed good-start before-ours ∙ end)
-    ∙ octet-kept ps (stepPlain c ps .1) 16 good (simulates .invariant c ps second-typed good) (omega arith)
-    ∙ ap (λ (p : Place). getD (placeFilter p) 16 0) before-place ∙ once-octet
+    ap (λ (b : Bool). cond b (stepNumbers c (encodeAll ps) .1) (withFilter 0 (encodeAll ps) (stepNumbers c (encodeAll ps) .1))) later ∙ ap (withFilter 0 (encodeAll ps)) same in
+    ap (filterOctet 0 16) (end-ours second before closedTable before-typed good-start before-ours ∙ end)
+    ∙ ap (λ (f : List ℕ). getD f 16 0) (filter-kept ps (stepPlain c ps .1) good (simulates .invariant c ps second-typed good) ∙ ap placeFilter before-place)
+    ∙ once-octet
 
 -- the observer saw a chunk taken there
 octet-seen : observedOctet 0 16 (watched placesFirst (before ++ (second ∷ [])) (encodeAll closedTable) []) ≡ 1

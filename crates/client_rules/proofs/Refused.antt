@@ -1,4 +1,4 @@
--- A refusal changes nothing, on any octets lent. Assumes nothing.
+-- A refusal changes nothing, on any numbers lent. Assumes nothing.
 use mathlib.Core.Path.{_≡_, refl, sym, ap, _∙_}
 use mathlib.Core.Bool.{true, cond, not, _&&_, _||_}
 use mathlib.Core.List.{List, [], _∷_}
@@ -22,15 +22,15 @@ use Rattle.state.specs.declared.event.Reply.{Reply}
 use Rattle.octets.proofs.Tests.{by-test}
 use Rattle.association.specs.Record.{headOf, recordSize}
 use Rattle.association.specs.Encode.{decode}
-use Rattle.association.specs.Step.{onOctets}
+use Rattle.association.specs.Step.{onNumbers}
 use Rattle.association.proofs.Reached.{by-request}
 use Rattle.client_rules.specs.Call.{Call, clearTable, openOne, closeOne, poll, sent, receive, loopVerdict, publish, Answer, plainAnswer, refusalAnswer, pollAnswer, receiveAnswer}
 use Rattle.client_rules.specs.Select.{Seen, wrongId, allSelected, inRangeSeen, completeSeen, verdictFor, publishFor}
 use Rattle.client_rules.specs.Step.{eventOn, clearing, publishing}
-use Rattle.client_rules.specs.Octets.{tableSize, part, putPart, atOctets, seenOctets}
+use Rattle.client_rules.specs.Numbers.{tableSize, part, putPart, atNumbers, seenNumbers}
 use Rattle.client_rules.specs.Refused.{lent, refusalsOf, RefusedCall, Refusals}
 
--- ---- the numbers
+-- ---- the refusals
 
 -- the refusals that concern an event, but 6
 abbrev laterOf : Event → List ℕ
@@ -78,15 +78,15 @@ place-answers (Receive r) datagram (opened o) k =
 place-answers Look datagram closed k = refl
 place-answers Look datagram (opened o) k = refl
 
--- ---- the octets
+-- ---- the table
 
--- an event's refusal is one of those that concern it, and leaves the octets
+-- an event's refusal is one of those that concern it, and leaves the numbers
 record Kept (later l : List ℕ) (w : Reply × List ℕ) : Type 0 where
   kept : (w .0 .refusal ≡ 0 → ⊥) → w .1 ≡ l
   number : among (w .0 .refusal) (0 ∷ 6 ∷ later) ≡ true
 
-kept-on : (e : Event) (datagram l : List ℕ) → Known e → Kept (laterOf e) l (onOctets e datagram l)
-unfolding onOctets
+kept-on : (e : Event) (datagram l : List ℕ) → Known e → Kept (laterOf e) l (onNumbers e datagram l)
+unfolding onNumbers
 kept-on e datagram l k =
     let a = placeDo e datagram (decode l) .0 in
     by-test (Kept (laterOf e) l) (eqb (length l) recordSize && inRange (headOf l))
@@ -101,7 +101,7 @@ part-back : (a : ℕ) (t : List ℕ) → putPart a t (part a t) ≡ t
 part-back a t =
     rw (← drop-drop recordSize (a * recordSize) t, take-append-drop recordSize (drop (a * recordSize) t), take-append-drop (a * recordSize) t)
 
-kept-at : (a : ℕ) (e : Event) (datagram t : List ℕ) → Known e → Kept (laterOf e) t (atOctets a e datagram t)
+kept-at : (a : ℕ) (e : Event) (datagram t : List ℕ) → Known e → Kept (laterOf e) t (atNumbers a e datagram t)
 unfolding eventOn
 kept-at a e datagram t k =
     let s = kept-on e datagram (part a t) k in
@@ -135,9 +135,9 @@ plain-refused : (c : Call) (t : List ℕ) (n : ℕ) → among n (refusalsOf c) �
 plain-refused c t n h = record { table-kept = refl; zeros = refl; number = h }
 
 event-refused : (c : Call) (a : ℕ) (e : Event) (datagram : List ℕ) (answer : Reply → Answer) (t : List ℕ) → Known e → refusalsOf c ≡ 6 ∷ laterOf e → Plainly answer (lent c)
-    → (answer (atOctets a e datagram t .0) .refusal ≡ 0 → ⊥) → RefusedCall c t (answer (atOctets a e datagram t .0), atOctets a e datagram t .1)
+    → (answer (atNumbers a e datagram t .0) .refusal ≡ 0 → ⊥) → RefusedCall c t (answer (atNumbers a e datagram t .0), atNumbers a e datagram t .1)
 event-refused c a e datagram answer t k r s f =
-    let w = atOctets a e datagram t in
+    let w = atNumbers a e datagram t in
     let i = kept-at a e datagram t k in
     let n = s .number (w .0) in
     let g : w .0 .refusal ≡ 0 → ⊥ = λ z. f (n ∙ z) in
@@ -178,7 +178,7 @@ refusals (poll a cookie exponent interleaved out) t =
 refusals (sent a t1) t = event-refused _ a _ [] refusalAnswer t tt refl plainly-refusal
 refusals (receive a datagram t4) t =
     event-refused _ a _ datagram receiveAnswer t (rw (response-sound datagram t4) (sound-number (λ (n : ℕ). among n (0 ∷ refusalsOf (receive a datagram t4)) ≡ true) refl refl refl refl refl refl refl datagram 4)) refl plainly-receive
-refusals (loopVerdict a id) t = verdict-refused a id t (seenOctets t a) (kept-at a Look [] t tt .number)
+refusals (loopVerdict a id) t = verdict-refused a id t (seenNumbers t a) (kept-at a Look [] t tt .number)
 refusals (publish selected id out) t =
     by-test (IfRefused (publish selected id out) t) (eqb (length t) tableSize)
-    (λ x. publish-refused selected id out t (seenOctets t)) (λ x n. plain-refused _ t 6 refl)
+    (λ x. publish-refused selected id out t (seenNumbers t)) (λ x n. plain-refused _ t 6 refl)

@@ -8,7 +8,7 @@ use lib.ListN.{take, drop}
 use Rattle.association.specs.Record.{headOf, headSize}
 use Rattle.order.specs.Order.{TaggedCall, answers}
 use Rattle.client_rules.specs.Call.{Call, clearTable, openOne, closeOne, poll, sent, receive, loopVerdict, publish, plainAnswer}
-use Rattle.client_rules.specs.Octets.{part, putPart, stepOctets}
+use Rattle.client_rules.specs.Numbers.{part, putPart, stepNumbers}
 use Rattle.client_rules.specs.Claim.{Client, clearedBy, cleared, reachedBy, reached, Reordered, Filters, ForEveryList, Demand3For, NothingLostFor, Demand2For, PublicationsFor, FirstPollFor}
 use Rattle.client_rules.specs.Refused.{lent, RefusalsFor}
 
@@ -29,7 +29,7 @@ StoresNothing step = (c : Call) (t : List ℕ) → step c t .1 ≡ t
 abbrev pub WritesNothing : Client → Type 0
 WritesNothing step = (c : Call) (t : List ℕ) → step c t .0 .out ≡ lent c
 
--- P-8: places only the first chunk: the octets u, with the filter that a had in t, where a chunk had been taken
+-- P-8: places only the first chunk: the numbers u, with the filter that a had in t, where a chunk had been taken
 unfoldable pub withFilter : ℕ → List ℕ → List ℕ → List ℕ
 withFilter a t u = putPart a u (take headSize (part a u) ++ drop headSize (part a t))
 
@@ -45,7 +45,7 @@ firstPlaced (publish selected id out) t u = u
 
 -- ours but for that: it answers what ours answers, so that a later chunk is answered as taken, and counted
 abbrev pub placesFirst : Client
-placesFirst c t = (stepOctets c t .0, firstPlaced c t (stepOctets c t .1))
+placesFirst c t = (stepNumbers c t .0, firstPlaced c t (stepNumbers c t .1))
 
 pub record IdleRejected : Type 0 where
   -- demand 2's acceptance and the whole first poll, M-13
@@ -72,7 +72,7 @@ pub record HoldsOfRefusing : Type 0 where
 
 -- P-10: demand 3 holds of no other client than ours: one that keeps it answers and leaves, after every list of calls, what ours does
 pub record SameAsOurs (step : Client) (t : List ℕ) (cs : List (TaggedCall Call)) : Type 0 where
-  pub same-answers : answers step cs (clearedBy step t) ≡ answers stepOctets cs (cleared t)
+  pub same-answers : answers step cs (clearedBy step t) ≡ answers stepNumbers cs (cleared t)
   pub same-end : reachedBy step t cs ≡ reached t cs
 
 abbrev pub OursAlone : Type 0

@@ -1,11 +1,11 @@
--- Refusals of the client, N-27 and N-28: of any call, whatever its arguments, on any octets lent as a table, of any size (D-1).
+-- Refusals of the client, N-27 and N-28: of any call, whatever its arguments, on any numbers lent as a table, of any size (D-1).
 use mathlib.Core.Path.{_≡_}
 use mathlib.Core.Bool.{true}
 use mathlib.Core.List.{List, [], _∷_}
 use Prim.Native.Nat.{ℕ}
 use Rattle.octets.specs.Among.{among}
 use Rattle.client_rules.specs.Call.{Call, clearTable, openOne, closeOne, poll, sent, receive, loopVerdict, publish, Answer, plainAnswer}
-use Rattle.client_rules.specs.Octets.{stepOctets}
+use Rattle.client_rules.specs.Numbers.{stepNumbers}
 use Rattle.client_rules.specs.Claim.{Client}
 
 -- the output that a call is lent; a call without one writes none
@@ -41,4 +41,4 @@ abbrev pub RefusalsFor : Client → Type 0
 RefusalsFor step = (c : Call) (t : List ℕ) → (step c t .0 .refusal ≡ 0 → ⊥) → RefusedCall c t (step c t)
 
 abbrev pub Refusals : Type 0
-Refusals = RefusalsFor stepOctets
+Refusals = RefusalsFor stepNumbers

@@ -1,4 +1,4 @@
--- What a call answers and leaves, on any table that takes events: lent octets, or the plain table.
+-- What a call answers and leaves, on any table that takes events: lent numbers, or the plain table.
 use mathlib.Core.Bool.{Bool, cond, _&&_}
 use mathlib.Core.List.{List, []}
 use Prim.Native.Nat.{ℕ}

@@ -9,10 +9,12 @@ use borrow.Author.Tests.{le-leb, lt-leb}
 use lib.Dec.{leb}
 use lib.ListN.{length, take, replicate, length-append, length-replicate, replicate-append-replicate, take-append-drop}
 use lib.Seq.{paste, length-paste, take-all, length-take-le}
-use Rattle.octets.specs.Number.{octets, putAt}
-use Rattle.octets.specs.Part.{overwrite, copyAt, zeroAt}
+use Rattle.octets.specs.Number.{Octets, octets, putAt}
+use Rattle.octets.specs.Part.{overwrite, zeroAt}
 use Rattle.octets.proofs.Numbers.{length-octets}
 use Rattle.octets.proofs.Parts.{Overwrites, then-part, paste-paste}
+use Rattle.word_rules.specs.Words.{copyByWords}
+use Rattle.word_rules.proofs.Taking.{served-words}
 use Rattle.chain.specs.Chain.{padded}
 use Rattle.chain.specs.Content.{Content, content, contentOctets, chainOctets}
 use Rattle.chain.proofs.Contents.{sizeOf, length-content}
@@ -88,10 +90,10 @@ module _ (kind zeros at : ℕ) (source s : List ℕ) where
         rw (le-leb _ _ in-bits, le-leb _ _ fits) (λ i. (w .place i, w .content i))
 
   -- in four parts: the type, the length, the source's octets, and the zeros of the data with those of the padding
-  pub parts-written : at + (4 + padded (length source + zeros)) ≤ length s → {s1 s2 s3 s4 : List ℕ} → s1 ≡ putAt s at 2 kind → s2 ≡ putAt s1 (at + 2) 2 (length source + zeros + 4)
-      → s3 ≡ copyAt s2 (at + 4) source 0 (length source) → s4 ≡ zeroAt s3 (at + 4 + length source) (padded (length source + zeros) - length source)
+  pub parts-written : Octets source → at + (4 + padded (length source + zeros)) ≤ length s → {s1 s2 s3 s4 : List ℕ} → s1 ≡ putAt s at 2 kind → s2 ≡ putAt s1 (at + 2) 2 (length source + zeros + 4)
+      → s3 ≡ copyByWords s2 (at + 4) source 0 (length source) → s4 ≡ zeroAt s3 (at + 4 + length source) (padded (length source + zeros) - length source)
       → WrittenAt s at (contentOctets field) (at + 4 + padded (length source + zeros)) s4
-  parts-written room {s1} {s2} e1 e2 e3 e4 =
+  parts-written o room {s1} {s2} e1 e2 e3 e4 =
       let n = length source in
       let size = n + zeros in
       let four : at + 2 + 2 ≡ at + 4 = omega arith in
@@ -104,8 +106,8 @@ module _ (kind zeros at : ℕ) (source s : List ℕ) where
       let w4 = rw end at (then-part (replicate (padded size - n) 0) (padded size - n) w3 (length-replicate _ _) (omega arith) e4) in
       written-part (rw regrouped at w4) (omega (arith, length-content field, data-length))
     where
-      copied : (l : List ℕ) → copyAt l (at + 4) source 0 (length source) ≡ overwrite l (at + 4) source (length source)
-      copied l = rw (le-leb (0 + length source) (length source) (omega arith))
+      copied : (l : List ℕ) → copyByWords l (at + 4) source 0 (length source) ≡ overwrite l (at + 4) source (length source)
+      copied l = served-words l source o (at + 4) 0 (length source) ∙ rw (le-leb (0 + length source) (length source) (omega arith))
 
       regrouped : take at s ++ octets 2 kind ++ octets 2 (length source + zeros + 4) ++ source ++ replicate (padded (length source + zeros) - length source) 0
           ≡ take at s ++ contentOctets field

@@ -36,7 +36,7 @@ fn put_parts(out: &mut [u8], at: usize, kind: u16, source: &[u8], zeros: usize) 
     let padded = (n + zeros + 3) / 4 * 4;
     number::put16(out, at, kind);
     number::put16(out, at + 2, (n + zeros + 4) as u16);
-    part::copy(out, at + 4, source, 0, n);
+    octet_words::copy(out, at + 4, source, 0, n);
     part::zero(out, at + 4 + n, padded - n);
     at + 4 + padded
 }

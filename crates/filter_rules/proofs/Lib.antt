@@ -4,3 +4,4 @@ pub mod Adding
 pub mod Uniting
 pub mod Weights
 pub mod Publishing
+pub mod Turns

@@ -1,11 +1,13 @@
--- The laws of a filter's words, W203-1.
+-- The laws of a filter's words, W203-1 and W203-3, and the weight, B-6, as the number of bits set.
 use mathlib.Core.Path.{_≡_}
 use mathlib.Core.List.{List}
 use Prim.Native.Nat.{ℕ, _*_, _<_}
+use lib.Count.{ones}
 use lib.ListN.{length, getD}
 use Rattle.octets.specs.Number.{Octets}
-use Rattle.filter_rules.specs.Filter.{isSet}
-use Rattle.filter_words.specs.Words.{Words, lowFirst, wordsOf, isSetIn}
+use Rattle.filter_rules.specs.Filter.{isSet, weight}
+use Rattle.word_rules.specs.Words.{Words, lowFirst}
+use Rattle.filter_words.specs.Words.{wordsOf, isSetIn, onesOf}
 
 -- there are 64 of them
 abbrev pub SixtyFourWords : Type 0
@@ -22,3 +24,11 @@ EightOctets = (f : List ℕ) (i : ℕ) → i < 64 → getD (wordsOf f) i 0 ≡ l
 -- position p is bit p mod 64 of word p div 64
 abbrev pub PositionInWord : Type 0
 PositionInWord = (f : List ℕ) → Octets f → (p : ℕ) → p < 4096 → isSet f p ≡ isSetIn (wordsOf f) p
+
+-- B-6: the positions that are set are as many as the ones of the number that the filter's octets spell
+abbrev pub BitsSet : Type 0
+BitsSet = (f : List ℕ) → Octets f → weight f ≡ ones (lowFirst f 0 512)
+
+-- W203-3
+abbrev pub WeightOfWords : Type 0
+WeightOfWords = (f : List ℕ) → Octets f → weight f ≡ onesOf (wordsOf f)

@@ -1,34 +1,38 @@
--- A filter as 64 words of 64 bits, W203-1. Word i is spelled by octets 8i to 8i + 7, the first of them the lowest, so that position p
--- is weight 2^(p mod 64) of word p div 64.
-use mathlib.Core.Bool.{Bool, cond}
-use mathlib.Core.List.{List, [], _∷_}
-use Prim.Native.Nat.{ℕ, zero, suc, _+_, _*_, _/_, _%_, _^_, _<_}
+-- A filter as 64 words of 64 bits, W203-1 and W210-1, and what is done to it so. Word i is spelled by octets 8i to 8i + 7, the first of them
+-- the lowest, so that position p is weight 2^(p mod 64) of word p div 64.
+use mathlib.Core.Bool.{Bool, true, _&&_}
+use mathlib.Core.List.{List, [], _∷_, map, sum}
+use Prim.Native.Nat.{ℕ, _+_, _/_, _%_, _^_}
+use lib.Bits.{bitOr}
+use lib.Count.{ones}
 use lib.Dec.{eqb}
-use lib.ListN.{getD}
-use Rattle.octets.specs.Part.{hasRoom}
+use lib.ListN.{getD, set, replicate}
+use Rattle.word_rules.specs.Words.{wordsFrom}
 
--- each element is a word, as in every slice of u64
-abbrev pub Words : List ℕ → Type 0
-Words ws = (i : ℕ) → getD ws i 0 < 2 ^ 64
-
--- the number that the n octets from i on spell, the first the lowest
-unfoldable pub lowFirst : List ℕ → ℕ → ℕ → ℕ
-lowFirst l i zero = 0
-lowFirst l i (suc n) = getD l (i + n) 0 * 2 ^ (8 * n) + lowFirst l i n
-
--- the word of the eight octets from `at` on, 0 where they run past the end
-abbrev pub wordAt : List ℕ → ℕ → ℕ
-wordAt s at = cond (hasRoom s at 8) (lowFirst s at 8) 0
-
--- n words of octets, from word i on
-unfoldable pub wordsFrom : List ℕ → ℕ → ℕ → List ℕ
-wordsFrom f i zero = []
-wordsFrom f i (suc n) = lowFirst f (8 * i) 8 ∷ wordsFrom f (suc i) n
-
--- the words of a filter
+-- the words of a filter; `octetsOf` leads back
 abbrev pub wordsOf : List ℕ → List ℕ
 wordsOf f = wordsFrom f 0 64
+
+abbrev pub freshWords : List ℕ
+freshWords = replicate 64 0
 
 -- whether position p is set in words
 abbrev pub isSetIn : List ℕ → ℕ → Bool
 isSetIn ws p = eqb (getD ws (p / 64) 0 / 2 ^ (p % 64) % 2) 1
+
+-- words with position p set; a position past the end changes nothing
+abbrev pub addPositionIn : List ℕ → ℕ → List ℕ
+addPositionIn ws p = set ws (p / 64) (bitOr (getD ws (p / 64) 0) (2 ^ (p % 64)))
+
+unfoldable pub addAllIn : List ℕ → List ℕ → List ℕ
+addAllIn ws [] = ws
+addAllIn ws (p ∷ ps) = addAllIn (addPositionIn ws p) ps
+
+-- all of the positions are set
+unfoldable pub containsAllIn : List ℕ → List ℕ → Bool
+containsAllIn ws [] = true
+containsAllIn ws (p ∷ ps) = isSetIn ws p && containsAllIn ws ps
+
+-- W203-2, W203-3: the ones of all words together
+abbrev pub onesOf : List ℕ → ℕ
+onesOf ws = sum _+_ 0 (map ones ws)

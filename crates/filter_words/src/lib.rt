@@ -1,41 +1,66 @@
-// Octets read as words of 64 bits, W203-1. A word's first octet is its lowest.
-use octets::part;
+// Filters kept as words of 64 bits, W210-1. Each call does to words what `filter_rules` says of their octets (W210-6), and is total: a
+// position past the end of a slice is not set, and adding it changes nothing.
 ghost use mathlib.Core.Path.{_≡_};
-ghost use Prim.Native.Nat.{_+_, _*_, _≤_};
-ghost use lib.ListN.{length};
-ghost use Rattle.filter_words.specs.Words.{lowFirst, wordAt};
+ghost use Prim.Native.Nat.{_/_, _%_};
+ghost use Rattle.filter_rules.specs.Filter.{union};
+ghost use Rattle.filter_words.specs.Words.{freshWords, addAllIn, containsAllIn};
 
-// Four octets as one number.
-fn low_first(a: u8, b: u8, c: u8, d: u8) -> u64
-    ensures { λ r. ⌜ r ≡ ((d * 256 + c) * 256 + b) * 256 + a ⌝ }
+// B-1.
+pub fn fresh() -> [u64; 64]
+    ensures { λ r. ⌜ r ≡ freshWords ⌝ }
 {
-    ((d as u64 * 256 + c as u64) * 256 + b as u64) * 256 + a as u64
+    [0; 64]
 }
 
-// Four octets of a slice as one number.
-fn half_word(s: &[u8], at: usize) -> u64
-    requires { ⌜ at + 4 ≤ length (now s) ⌝ }
-    ensures { λ r. ⌜ r ≡ lowFirst (now (s .entry)) at 4 ⌝ }
+// B-4: sets each of the positions.
+pub fn add(words: &mut [u64], positions: [u16; 10])
+    ensures { λ _. ⌜ now (words .exit) ≡ addAllIn (now (words .entry)) positions ⌝ }
 {
-    low_first(s[at], s[at + 1], s[at + 2], s[at + 3])
+    let mut i = 0;
+    while i < 10 {
+        let p = positions[i];
+        let at = (p / 64) as usize;
+        if at < words.len() {
+            words[at] = words[at] | 1u64 << (p % 64) as u8;
+        }
+        i += 1;
+    }
 }
 
-// Eight octets of a slice as one number. The compiler knows the two halves as one load, since the order is the machine's own.
-fn whole_word(s: &[u8], at: usize) -> u64
-    requires { ⌜ at + 8 ≤ length (now s) ⌝ }
-    ensures { λ r. ⌜ r ≡ lowFirst (now (s .entry)) at 8 ⌝ }
+// B-7: whether all of the positions are set.
+pub fn contains(words: &[u64], positions: [u16; 10]) -> bool
+    ensures { λ r. ⌜ r ≡ containsAllIn (now (words .entry)) positions ⌝ }
 {
-    half_word(s, at + 4) * 0x1_0000_0000 + half_word(s, at)
+    let mut k = 0;
+    while k < 10 {
+        let p = positions[k];
+        let at = (p / 64) as usize;
+        if words.len() <= at {
+            return false;
+        }
+        if (words[at] >> (p % 64) as u8) % 2 == 0 {
+            return false;
+        }
+        k += 1;
+    }
+    true
 }
 
-// The word of the eight octets from `at` on, 0 where they run past the end. In a loop over a slice of known size the test
-// costs nothing.
-pub fn word(s: &[u8], at: usize) -> u64
-    ensures { λ r. ⌜ r ≡ wordAt (now (s .entry)) at ⌝ }
+// The smaller of two lengths.
+fn min(a: usize, b: usize) -> usize
+    ensures { λ r. ⌜ r ≡ Prim.Native.Nat.min a b ⌝ }
 {
-    if part::has_room(s, at, 8) {
-        whole_word(s, at)
-    } else {
-        0
+    if a < b { a } else { b }
+}
+
+// B-5: sets each position that is set in `other`.
+pub fn union(into: &mut [u64], other: &[u64])
+    ensures { λ _. ⌜ now (into .exit) ≡ union (now (into .entry)) (now (other .entry)) ⌝ }
+{
+    let end = min(into.len(), other.len());
+    let mut i = 0;
+    while i < end {
+        into[i] = into[i] | other[i];
+        i += 1;
     }
 }

@@ -7,47 +7,47 @@ use header::ClientCookie;
 ghost use mathlib.Core.Path.{_≡_};
 ghost use mathlib.Core.List.{[]};
 ghost use Rattle.client_rules.specs.Call.{clearTable, openOne, closeOne, poll, sent, receive, loopVerdict, publish, plainAnswer};
-ghost use Rattle.client_rules.specs.Octets.{tableSize, stepOctets};
+ghost use Rattle.client_rules.specs.Numbers.{tableSize, stepNumbers};
 ghost use Rattle.c_structs.specs.Numbers.{writtenNumbers, receivedNumbers, verdictNumbers};
 
 #[no_mangle]
-pub extern "C" fn ntp5_table_octets() -> usize
+pub extern "C" fn ntp5_table_words() -> usize
     ensures { λ r. ⌜ r ≡ tableSize ⌝ }
 {
-    client::table_octets()
+    client::table_words()
 }
 
 #[no_mangle]
-pub extern "C" fn ntp5_clear(table: &mut [u8]) -> u8
-    ensures { λ r. ⌜ (plainAnswer r [], now (table .exit)) ≡ stepOctets clearTable (now (table .entry)) ⌝ }
+pub extern "C" fn ntp5_clear(table: &mut [u64]) -> u8
+    ensures { λ r. ⌜ (plainAnswer r [], now (table .exit)) ≡ stepNumbers clearTable (now (table .entry)) ⌝ }
 {
     client::clear(table)
 }
 
 #[no_mangle]
-pub extern "C" fn ntp5_open(table: &mut [u8], association: u8, timescale: u8, chunk: u16) -> u8
-    ensures { λ r. ⌜ (plainAnswer r [], now (table .exit)) ≡ stepOctets (openOne association timescale chunk) (now (table .entry)) ⌝ }
+pub extern "C" fn ntp5_open(table: &mut [u64], association: u8, timescale: u8, chunk: u16) -> u8
+    ensures { λ r. ⌜ (plainAnswer r [], now (table .exit)) ≡ stepNumbers (openOne association timescale chunk) (now (table .entry)) ⌝ }
 {
     client::open(table, association, timescale, chunk)
 }
 
 #[no_mangle]
-pub extern "C" fn ntp5_close(table: &mut [u8], association: u8) -> u8
-    ensures { λ r. ⌜ (plainAnswer r [], now (table .exit)) ≡ stepOctets (closeOne association) (now (table .entry)) ⌝ }
+pub extern "C" fn ntp5_close(table: &mut [u64], association: u8) -> u8
+    ensures { λ r. ⌜ (plainAnswer r [], now (table .exit)) ≡ stepNumbers (closeOne association) (now (table .entry)) ⌝ }
 {
     client::close(table, association)
 }
 
 #[no_mangle]
 pub extern "C" fn ntp5_poll(
-    table: &mut [u8],
+    table: &mut [u64],
     association: u8,
     client_cookie: u64,
     exponent: i8,
     interleaved: bool,
     out: &mut [u8],
 ) -> Written
-    ensures { λ r. ⌜ (writtenNumbers r (now (out .exit)), now (table .exit)) ≡ stepOctets (poll association «client_cookie» exponent interleaved (now (out .entry))) (now (table .entry)) ⌝ }
+    ensures { λ r. ⌜ (writtenNumbers r (now (out .exit)), now (table .exit)) ≡ stepNumbers (poll association «client_cookie» exponent interleaved (now (out .entry))) (now (table .entry)) ⌝ }
 {
     let mode = answers::mode(interleaved);
     let polled = client::poll(
@@ -62,35 +62,35 @@ pub extern "C" fn ntp5_poll(
 }
 
 #[no_mangle]
-pub extern "C" fn ntp5_sent(table: &mut [u8], association: u8, t1: u64) -> u8
-    ensures { λ r. ⌜ (plainAnswer r [], now (table .exit)) ≡ stepOctets (sent association t1) (now (table .entry)) ⌝ }
+pub extern "C" fn ntp5_sent(table: &mut [u64], association: u8, t1: u64) -> u8
+    ensures { λ r. ⌜ (plainAnswer r [], now (table .exit)) ≡ stepNumbers (sent association t1) (now (table .entry)) ⌝ }
 {
     client::sent(table, association, t1)
 }
 
 #[no_mangle]
 pub extern "C" fn ntp5_receive(
-    table: &mut [u8],
+    table: &mut [u64],
     association: u8,
     datagram: &[u8],
     t4: u64,
 ) -> Received
-    ensures { λ r. ⌜ (receivedNumbers r, now (table .exit)) ≡ stepOctets (receive association (now (datagram .entry)) t4) (now (table .entry)) ⌝ }
+    ensures { λ r. ⌜ (receivedNumbers r, now (table .exit)) ≡ stepNumbers (receive association (now (datagram .entry)) t4) (now (table .entry)) ⌝ }
 {
     let received = client::receive(table, association, datagram, t4);
     answers::of_received(received)
 }
 
 #[no_mangle]
-pub extern "C" fn ntp5_loop_verdict(table: &[u8], association: u8, id: &[u8]) -> Verdict
-    ensures { λ r. ⌜ (verdictNumbers r, now (table .entry)) ≡ stepOctets (loopVerdict association (now (id .entry))) (now (table .entry)) ⌝ }
+pub extern "C" fn ntp5_loop_verdict(table: &[u64], association: u8, id: &[u8]) -> Verdict
+    ensures { λ r. ⌜ (verdictNumbers r, now (table .entry)) ≡ stepNumbers (loopVerdict association (now (id .entry))) (now (table .entry)) ⌝ }
 {
     answers::of_verdict(client::loop_verdict(table, association, id))
 }
 
 #[no_mangle]
-pub extern "C" fn ntp5_publish(table: &[u8], selected: u16, id: &[u8], out: &mut [u8]) -> Written
-    ensures { λ r. ⌜ (writtenNumbers r (now (out .exit)), now (table .entry)) ≡ stepOctets (publish selected (now (id .entry)) (now (out .entry))) (now (table .entry)) ⌝ }
+pub extern "C" fn ntp5_publish(table: &[u64], selected: u16, id: &[u8], out: &mut [u8]) -> Written
+    ensures { λ r. ⌜ (writtenNumbers r (now (out .exit)), now (table .entry)) ≡ stepNumbers (publish selected (now (id .entry)) (now (out .entry))) (now (table .entry)) ⌝ }
 {
     let published = client::publish(table, selected, id, out);
     answers::of_published(published)

@@ -9,7 +9,7 @@ use words::octet_word::octets_of;
 ghost use mathlib.Core.Path.{_≡_};
 
 // The call of this number, that of its row from 0 on, and its result. `table` is the client's.
-pub fn run(call: usize, row: &[u8], line: &[u8], table: &[u8])
+pub fn run(call: usize, row: &[u8], line: &[u8], table: &[u64])
     ensures { λ r. ⌜ r ≡ tt ⌝ }
 {
     let mut room = [0u8; 4096];

@@ -28,7 +28,7 @@ fn header_of(line: &[u8]) -> header::Header {
 }
 
 // publish SELECTED ID OUTPUT
-fn publish(line: &[u8], id: &[u8], output: &mut [u8], table: &[u8]) -> u8 {
+fn publish(line: &[u8], id: &[u8], output: &mut [u8], table: &[u64]) -> u8 {
     let published = client::publish(table, u16_at(line, 1), id, output);
     match published {
         client::Published::Refused(number) => number,
@@ -37,7 +37,7 @@ fn publish(line: &[u8], id: &[u8], output: &mut [u8], table: &[u8]) -> u8 {
 }
 
 // Answers the refusal or 0.
-fn change(call: usize, line: &[u8], octets: &[u8], output: &mut [u8], table: &[u8]) -> u8 {
+fn change(call: usize, line: &[u8], octets: &[u8], output: &mut [u8], table: &[u64]) -> u8 {
     match call {
         1 => header::write(header_of(line), output),
         3 => filter::add_id(output, octets),
@@ -47,7 +47,7 @@ fn change(call: usize, line: &[u8], octets: &[u8], output: &mut [u8], table: &[u
 }
 
 // The call of this number on the octets of its letter O, which are printed afterwards.
-pub(crate) fn make(call: usize, row: &[u8], line: &[u8], octets: &[u8], table: &[u8]) {
+pub(crate) fn make(call: usize, row: &[u8], line: &[u8], octets: &[u8], table: &[u64]) {
     let mut room = [0u8; 4096];
     let output = octets_of(word_of(line, row, b'O'), &mut room);
     let refusal = change(call, line, octets, output, table);

@@ -63,7 +63,7 @@ fn call_measure(row: &[u8], t1: u64, t2: u64, t3: u64, t4: u64) {
 }
 
 // verdict A ID
-fn call_verdict(row: &[u8], line: &[u8], id: &[u8], table: &[u8]) {
+fn call_verdict(row: &[u8], line: &[u8], id: &[u8], table: &[u64]) {
     let verdict = client::loop_verdict(table, u8_at(line, 1), id);
     match verdict {
         client::Verdict::Refused(number) => print::result(row, number, id),
@@ -73,7 +73,7 @@ fn call_verdict(row: &[u8], line: &[u8], id: &[u8], table: &[u8]) {
     }
 }
 
-pub(crate) fn make(call: usize, row: &[u8], line: &[u8], octets: &[u8], table: &[u8]) {
+pub(crate) fn make(call: usize, row: &[u8], line: &[u8], octets: &[u8], table: &[u64]) {
     match call {
         0 => call_header(row, line, octets),
         2 => print::result(row, chain::sound(octets, u8_at(line, 1)), octets),

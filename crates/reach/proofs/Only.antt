@@ -9,7 +9,7 @@ use Rattle.association.proofs.Encoding.{head-encode}
 use Rattle.association.proofs.Simulate.{place-in}
 use Rattle.order.specs.Order.{TaggedCall, after, EveryCall}
 use Rattle.client_rules.specs.Call.{Call, Typed}
-use Rattle.client_rules.specs.Octets.{tableSize}
+use Rattle.client_rules.specs.Numbers.{tableSize}
 use Rattle.client_rules.specs.Plain.{closedTable, stepPlain}
 use Rattle.client_rules.specs.Claim.{placeAfter}
 use Rattle.reach.specs.Reach.{headAfter, OnlyInRange}
@@ -21,8 +21,7 @@ pub head-after : (t : List ℕ) → length t ≡ tableSize → (cs : List (Tagge
     → headAfter t cs a ≡ placeHead (placeAfter cs a)
 head-after t l cs ct a k =
     let g = good-reached cs ct in
-    rw (reached-plain t l cs ct, part-all (after stepPlain cs closedTable) a (g .all) (omega (arith, g .sixteen)))
-    (head-encode (placeAfter cs a) (good-at (after stepPlain cs closedTable) a (g .all)))
+    rw (reached-plain t l cs ct, part-all (after stepPlain cs closedTable) a (omega (arith, g .sixteen))) (head-encode (placeAfter cs a))
 
 pub only-in-range : OnlyInRange
 only-in-range t l cs ct a k =

@@ -10,7 +10,7 @@ use Rattle.state.specs.declared.head.Head.{Head}
 use Rattle.association.specs.Record.{headOf}
 use Rattle.order.specs.Order.{TaggedCall, EveryCall}
 use Rattle.client_rules.specs.Call.{Call, Typed}
-use Rattle.client_rules.specs.Octets.{tableSize, part}
+use Rattle.client_rules.specs.Numbers.{tableSize, part}
 use Rattle.client_rules.specs.Claim.{reached}
 
 -- the head of an association after calls

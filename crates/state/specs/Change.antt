@@ -2,7 +2,7 @@
 use mathlib.Core.Path.{_≡_}
 use mathlib.Core.Bool.{cond}
 use mathlib.Core.List.{List}
-use Prim.Native.Nat.{ℕ, _+_}
+use Prim.Native.Nat.{ℕ, _+_, _*_, _/_}
 use lib.Dec.{eqb}
 use lib.ListN.{replicate}
 use Rattle.octets.specs.Part.{copyAt}
@@ -24,11 +24,12 @@ change a h f = record { reply = a; head = h; filling = f }
 abbrev pub refuse : ℕ → Head → Change
 refuse n h = change (plainReply n) h Keep
 
--- the filter after a change of numbers h; a chunk goes where C-18 says
+-- the filter after a change of numbers h; a chunk goes where C-18 says, in whole words of eight octets. That its place and its size are
+-- multiples of eight is a law
 abbrev pub filled : Filling → Head → List ℕ → List ℕ → List ℕ
 filled Keep h datagram f = f
 filled Clear h datagram f = replicate 512 0
-filled (Take start) h datagram f = copyAt f (h .request .offset) datagram start (h .chunk)
+filled (Take start) h datagram f = copyAt f (8 * (h .request .offset / 8)) datagram start (8 * (h .chunk / 8))
 
 -- the count of taken octets with a chunk, for the code: once all 512 were taken they stay taken. That it is what the flags become is a law
 abbrev pub takenAfter : ℕ → ℕ → ℕ

@@ -21,13 +21,13 @@ use Rattle.association.proofs.Responses.{copied, taken-length}
 use Rattle.association.proofs.Reached.{GoodPlace, GoodOpened}
 use Rattle.order.specs.Order.{after}
 use Rattle.client_rules.specs.Call.{receive, Typed, Answer, receiveAnswer}
-use Rattle.client_rules.specs.Octets.{filterPlace, encodeAll}
+use Rattle.client_rules.specs.Numbers.{filterOctet, encodeAll}
 use Rattle.client_rules.specs.Plain.{closedTable, stepPlain}
 use Rattle.client_rules.specs.Claim.{placeAfter}
-use Rattle.client_rules.proofs.Tables.{GoodTable, good-at}
+use Rattle.client_rules.proofs.Tables.{GoodTable, good-at, filter-holds}
 use Rattle.client_rules.proofs.Simulate.{at-in, good-response}
 use Rattle.client_rules.proofs.Pasted.{within}
-use Rattle.client_rules.proofs.Demand3.{simulates, good-reached, call-reached, octet-at}
+use Rattle.client_rules.proofs.Demand3.{simulates, good-reached, call-reached}
 use Rattle.client_rules.proofs.Demand2.{accepts}
 use Rattle.store_rules.specs.Row.{rowOf}
 use Rattle.store_rules.proofs.Stores.{store-read}
@@ -135,7 +135,7 @@ module _ (k : Polling) (h : Asks k) (g : Given) (store out : List ℕ) (n : Answ
         let opens : GoodOpened o = subst GoodPlace (w .waits .waiting) (good-at places a (good .all)) in
         let inside = w .ranges .good .inside in
         let room : asked .offset + o .chunk ≤ 512 = rw (w .waits .offset, w .waits .chunk) inside in
-        rw (taken) (copied r answer (o .filter) (asked .offset) (o .chunk) (opens .filter) room (good-response answer t4 (serves .octets) fits) (taken-length r (o .chunk) (eq-eqb _ _ taken))
+        rw (taken) (copied r answer (o .filter) (asked .offset) (o .chunk) (opens .filter) room (good-response answer t4 (serves .octets)) (taken-length r (o .chunk) (eq-eqb _ _ taken))
         ∙ rw (chunk-octets q (k .cookie) (g .filter) answer t4 serves, w .waits .offset, w .waits .chunk))
 
     -- octet i of it is the server's
@@ -161,16 +161,16 @@ module _ (k : Polling) (h : Asks k) (g : Given) (store out : List ℕ) (n : Answ
     chunk-written : pollChunk k ≡ q .chunk
     chunk-written = rw (w .answer) (omega arith)
 
-    filter-taken : (i : ℕ) → pollOffset k ≤ i → i < pollOffset k + pollChunk k → getD (receiving k answer t4 .1) (filterPlace a i) 0 ≡ getD (g .filter) i 0
+    filter-taken : (i : ℕ) → pollOffset k ≤ i → i < pollOffset k + pollChunk k → filterOctet a i (receiving k answer t4 .1) ≡ getD (g .filter) i 0
     filter-taken i l m =
         let inside = w .ranges .good .inside in
         let at = offset-written in
         let c = chunk-written in
         let next = opened (received r answer o asked) in
         let u : a < length places = omega (arith, good .sixteen, w .inside) in
-        ap (λ (x : Answer × List ℕ). getD (x .1) (filterPlace a i) 0) received-so
-        ∙ octet-at (set places a next) a i good-after (w .inside) (omega arith)
-        ∙ ap (λ (p : Place). getD (placeFilter p) i 0) (getD-set-same places a next closed u) ∙ octet-left i (omega arith) (omega arith)
+        ap (λ (x : Answer × List ℕ). filterOctet a i (x .1)) received-so
+        ∙ ap (λ (f : List ℕ). getD f i 0) (filter-holds (set places a next) a good-after (w .inside) ∙ ap placeFilter (getD-set-same places a next closed u))
+        ∙ octet-left i (omega arith) (omega arith)
 
     exchanged : Exchanged k g store out t4
     exchanged = record {

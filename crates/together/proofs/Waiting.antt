@@ -19,7 +19,7 @@ use Rattle.state.specs.declared.event.Reply.{Reply}
 use Rattle.association.proofs.Reached.{by-request}
 use Rattle.order.specs.Order.{TaggedCall, after, EveryCall}
 use Rattle.client_rules.specs.Call.{Call, clearTable, openOne, closeOne, poll, sent, receive, loopVerdict, publish, Typed, Answer}
-use Rattle.client_rules.specs.Octets.{encodeAll}
+use Rattle.client_rules.specs.Numbers.{encodeAll}
 use Rattle.client_rules.specs.Plain.{stepPlain}
 use Rattle.client_rules.proofs.Tables.{GoodTable, atPlace}
 use Rattle.client_rules.proofs.Simulate.{at-in, at-other}
@@ -140,7 +140,7 @@ module _ (q : Asked) (cookie : ℕ) where
         go true e m = call-waits c ps g e h
         go false e m = subst⁻¹ (λ (qs : List Place). Waits q cookie (getD qs a closed)) (call-refused c ps (not-true _ m)) h
 
-    -- and any list of such calls on the table's octets
+    -- and any list of such calls on the table's numbers
     pub calls-wait : (cs : List (TaggedCall Call)) (ps : List Place) → EveryCall Typed cs → GoodTable ps → StaysOutstanding a cs (encodeAll ps)
         → Waits q cookie (getD ps a closed) → Waits q cookie (getD (after stepPlain cs ps) a closed)
     unfolding after

@@ -89,8 +89,8 @@ impl Outcome {
 pub trait Side {
     /// Makes the call.
     fn make(&mut self, call: &Call) -> Outcome;
-    /// The table's octets.
-    fn table(&self) -> Vec<u8>;
+    /// The table's numbers.
+    fn table(&self) -> Vec<u64>;
     /// The store's octets.
     fn store(&self) -> Vec<u8>;
 }

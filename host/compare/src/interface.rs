@@ -125,6 +125,8 @@ fn c_type(text: &str) -> String {
         "bool" => "bool",
         "uint8_t *" => "*mut u8",
         "const uint8_t *" => "*const u8",
+        "uint64_t *" => "*mut u64",
+        "const uint64_t *" => "*const u64",
         other => return capital(other.trim_start_matches("ntp5_")),
     };
     known.into()
@@ -140,11 +142,13 @@ fn rust_name(text: &str) -> Names {
     let Some((name, kind)) = text.split_once(':') else {
         return Vec::new();
     };
-    let name = name.trim().trim_start_matches("pub ");
-    let length = (format!("{name}_len"), "usize".to_string());
-    match kind.trim() {
-        "&mut [u8]" => vec![(name.into(), "*mut u8".into()), length],
-        "&[u8]" => vec![(name.into(), "*const u8".into()), length],
-        kind => vec![(name.into(), kind.into())],
+    let (name, kind) = (name.trim().trim_start_matches("pub "), kind.trim());
+    let pointer = |start, to| {
+        let of = kind.strip_prefix(start)?.strip_suffix(']')?;
+        Some(format!("{to} {of}"))
+    };
+    match pointer("&mut [", "*mut").or_else(|| pointer("&[", "*const")) {
+        Some(pointer) => vec![(name.into(), pointer), (format!("{name}_len"), "usize".into())],
+        None => vec![(name.into(), kind.into())],
     }
 }

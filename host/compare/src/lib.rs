@@ -1,9 +1,10 @@
-//! The library compared with the reference, call by call and octet by octet.
+//! The library compared with the reference, call by call, octet by octet and number by
+//! number.
 //!
 //! [`call::Call`] is a call with its arguments. It is made on three sides: the
 //! [`library`], the reference's [`plain`] table and store, and the reference on
-//! [`lent`](plain::Lent) octets. [`make`] draws calls at random; [`met`] counts
-//! what they led to; [`line`](mod@line) writes a call as the `cases` program reads it.
+//! [`lent`](plain::Lent) ones. [`make`] draws calls at random; [`met`] counts what
+//! they led to; [`line`](mod@line) writes a call as the `cases` program reads it.
 #![forbid(unsafe_code)]
 #![warn(missing_docs)]
 

@@ -4,65 +4,79 @@ use crate::call::{Answering, Call, Outcome, Returned, Side};
 use ntp5::ffi::calls;
 use ntp5::{Occasion, Server, ServerCookie};
 
-/// Octets before and after each lent part.
+/// Octets, or numbers, before and after each lent part.
 const GUARD: usize = 32;
 
-/// Octets lent as a part of a larger buffer. Nothing but the part may change.
+/// Octets or numbers lent as a part of a larger buffer. Nothing but the part may change.
 #[derive(Clone, Debug)]
-struct Guarded {
-    whole: Vec<u8>,
+struct Guarded<T> {
+    whole: Vec<T>,
     from: usize,
     to: usize,
 }
 
-impl Guarded {
-    /// `octets` between canaries; `shift` moves the part off its alignment.
-    fn new(octets: &[u8], shift: usize) -> Self {
-        let (from, to) = (GUARD + shift, GUARD + shift + octets.len());
-        let mut whole: Vec<u8> = (0..to + GUARD).map(canary).collect();
-        whole[from..to].copy_from_slice(octets);
+impl<T: Canary> Guarded<T> {
+    /// `contents` between canaries; `shift` moves octets off their alignment, numbers by whole numbers.
+    fn new(contents: &[T], shift: usize) -> Self {
+        let (from, to) = (GUARD + shift, GUARD + shift + contents.len());
+        let mut whole: Vec<T> = (0..to + GUARD).map(T::canary).collect();
+        whole[from..to].copy_from_slice(contents);
         Guarded { whole, from, to }
     }
 
-    fn part(&self) -> &[u8] {
+    fn part(&self) -> &[T] {
         &self.whole[self.from..self.to]
     }
 
-    fn part_mut(&mut self) -> &mut [u8] {
+    fn part_mut(&mut self) -> &mut [T] {
         &mut self.whole[self.from..self.to]
     }
 
-    /// The first octet outside the part that changed.
+    /// The first octet or number outside the part that changed.
     fn stray(&self) -> Option<String> {
-        let changed = |&(i, &octet): &(usize, &u8)| octet != canary(i);
+        let changed = |&(i, &found): &(usize, &T)| found != T::canary(i);
         let before = self.whole.iter().enumerate().take(self.from);
         let after = self.whole.iter().enumerate().skip(self.to);
         let (i, _) = before.chain(after).find(changed)?;
         let (from, to) = (self.from, self.to);
-        Some(format!("octet {i} was written, the lent part is {from}..{to}"))
+        Some(format!("place {i} was written, the lent part is {from}..{to}"))
     }
 
     /// As [`Self::stray`], of a part that was lent to be read only.
-    fn stray_read_only(&self, octets: &[u8]) -> Option<String> {
+    fn stray_read_only(&self, contents: &[T]) -> Option<String> {
         let written = || Some("a buffer lent to be read was written".into());
-        self.stray().or_else(|| if self.part() == octets { None } else { written() })
+        self.stray().or_else(|| if self.part() == contents { None } else { written() })
     }
 }
 
-fn canary(i: usize) -> u8 {
-    (i * 167 + 13) as u8
+/// What a lent part is made of.
+trait Canary: Copy + PartialEq {
+    /// What stands at a place outside the part.
+    fn canary(place: usize) -> Self;
+}
+
+impl Canary for u8 {
+    fn canary(place: usize) -> u8 {
+        (place * 167 + 13) as u8
+    }
+}
+
+impl Canary for u64 {
+    fn canary(place: usize) -> u64 {
+        u64::from_ne_bytes(std::array::from_fn(|i| u8::canary(8 * place + i)))
+    }
 }
 
 /// A table and a store of the library.
 pub struct Library {
-    table: Guarded,
-    store: Guarded,
+    table: Guarded<u64>,
+    store: Guarded<u8>,
     shift: usize,
 }
 
 impl Library {
-    /// Lends these octets as table and store.
-    pub fn new(table: &[u8], store: &[u8], shift: usize) -> Self {
+    /// Lends these numbers and octets as table and store.
+    pub fn new(table: &[u64], store: &[u8], shift: usize) -> Self {
         Library {
             table: Guarded::new(table, shift % 8),
             store: Guarded::new(store, shift / 8 % 8),
@@ -199,7 +213,7 @@ impl Side for Library {
         outcome
     }
 
-    fn table(&self) -> Vec<u8> {
+    fn table(&self) -> Vec<u64> {
         self.table.part().to_vec()
     }
 
@@ -212,18 +226,23 @@ impl Side for Library {
 mod tests {
     use super::*;
 
-    #[test]
-    fn stray_writes_are_found() {
-        let lent = Guarded::new(&[1, 2, 3], 5);
+    fn stray_writes_of<T: Canary>(contents: [T; 3], other: T) {
+        let lent = Guarded::new(&contents, 5);
         assert_eq!(lent.stray(), None);
         for place in [0, GUARD + 4, GUARD + 8, GUARD + 7 + GUARD] {
             let mut lent = lent.clone();
-            lent.whole[place] ^= 1;
-            assert!(lent.stray().is_some(), "octet {place}");
+            lent.whole[place] = other;
+            assert!(lent.stray().is_some(), "place {place}");
         }
         let mut written = lent.clone();
-        written.part_mut()[1] = 9;
+        written.part_mut()[1] = other;
         assert_eq!(written.stray(), None);
-        assert!(written.stray_read_only(&[1, 2, 3]).is_some());
+        assert!(written.stray_read_only(&contents).is_some());
+    }
+
+    #[test]
+    fn stray_writes_are_found() {
+        stray_writes_of([1_u8, 2, 3], 9);
+        stray_writes_of([1_u64, 2, 3], 0);
     }
 }

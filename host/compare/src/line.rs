@@ -4,6 +4,15 @@ use crate::call::{Answering, Call, Outcome};
 use ntp5::ffi::Header;
 use std::fmt::Write;
 
+/// A table's numbers, for people; a run of equal ones with its count.
+pub fn numbers(numbers: &[u64]) -> String {
+    let run = |run: &[u64]| match run.len() {
+        1 => format!("{:#x}", run[0]),
+        count => format!("{:#x}*{count}", run[0]),
+    };
+    numbers.chunk_by(|a, b| a == b).map(run).collect::<Vec<_>>().join(" ")
+}
+
 /// Octets as pairs of digits; a run of four or more equal ones with its count.
 pub fn octets(octets: &[u8]) -> String {
     if octets.is_empty() {
@@ -115,6 +124,11 @@ mod tests {
         assert_eq!(octets(&[0x2B, 0, 0, 0, 0, 0xF5]), "2b00*4,f5");
         assert_eq!(octets(&[7, 7, 7]), "070707");
         assert_eq!(octets(&[]), "-");
+    }
+
+    #[test]
+    fn numbers_with_their_runs() {
+        assert_eq!(numbers(&[1, 0, 0, 0, 255, 16, 16]), "0x1 0x0*3 0xff 0x10*2");
     }
 
     #[test]

@@ -1,4 +1,4 @@
-//! The reference's sides: its plain table and store, and lent octets.
+//! The reference's sides: its plain table and store, and lent ones.
 
 use crate::call::{Call, Outcome, Returned, Side};
 use crate::convert::{
@@ -13,7 +13,7 @@ use reference::record;
 use reference::store::{Store, RECORD_OCTETS};
 use reference::table::Table;
 
-/// The reference's plain table and store, which never see the library's octets.
+/// The reference's plain table and store, which never see what the library keeps.
 #[derive(Clone, Debug)]
 pub struct Plain {
     /// The table.
@@ -31,11 +31,11 @@ impl Plain {
     }
 }
 
-/// The reference on lent octets, any octets.
+/// The reference on a lent table and store, whatever stands in them.
 #[derive(Clone, Debug)]
 pub struct Lent {
-    /// The table's octets.
-    pub table: Vec<u8>,
+    /// The table's numbers.
+    pub table: Vec<u64>,
     /// The store's octets.
     pub store: Vec<u8>,
 }
@@ -107,7 +107,7 @@ impl Side for Plain {
         Outcome::new(returned, out)
     }
 
-    fn table(&self) -> Vec<u8> {
+    fn table(&self) -> Vec<u64> {
         self.table.places.each_ref().map(record::encode).concat()
     }
 
@@ -153,7 +153,7 @@ impl Side for Lent {
         Outcome::new(returned, out)
     }
 
-    fn table(&self) -> Vec<u8> {
+    fn table(&self) -> Vec<u64> {
         self.table.clone()
     }
 

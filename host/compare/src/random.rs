@@ -71,6 +71,12 @@ impl Random {
         octets
     }
 
+    /// `n` numbers, of octets as [`Self::octets`] draws them.
+    pub fn numbers(&mut self, n: usize) -> Vec<u64> {
+        let octets = self.octets(8 * n);
+        octets.as_chunks().0.iter().map(|octets| u64::from_le_bytes(*octets)).collect()
+    }
+
     /// Mostly `size`, else another size near it.
     pub fn size(&mut self, size: usize) -> usize {
         if !self.one_in(20) {

@@ -6,7 +6,7 @@ use crate::line;
 use crate::make;
 use crate::plain::Plain;
 use crate::random::Random;
-use reference::lent::TABLE_OCTETS;
+use reference::lent::TABLE_NUMBERS;
 
 /// The associations that a call names, a bit for each. Clearing names all,
 /// publishing those it selects; an association above 15 is none.
@@ -57,9 +57,9 @@ fn reordering(random: &mut Random, calls: &[Call]) -> Vec<usize> {
 }
 
 /// Makes the calls in this order from a cleared table; gives what each gave back, by
-/// the call's number, and the table's octets at the end.
-fn made(calls: &[Call], order: &[usize]) -> (Vec<Outcome>, Vec<u8>) {
-    let mut library = Library::new(&[0; TABLE_OCTETS], &[0; 16], 0);
+/// the call's number, and the table's numbers at the end.
+fn made(calls: &[Call], order: &[usize]) -> (Vec<Outcome>, Vec<u64>) {
+    let mut library = Library::new(&[0; TABLE_NUMBERS], &[0; 16], 0);
     let mut outcomes: Vec<(usize, Outcome)> =
         order.iter().map(|&i| (i, library.make(&calls[i]))).collect();
     outcomes.sort_by_key(|(i, _)| *i);

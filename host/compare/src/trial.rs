@@ -15,7 +15,7 @@ use reference::header::{Header, RESPONSE};
 /// One list of calls on the sides that are compared.
 struct Trial {
     library: Library,
-    /// The reference on octets, where `Plain` is compared too.
+    /// The reference on a lent table and store, where `Plain` is compared too.
     lent: Option<Lent>,
     made: Vec<String>,
     keep: bool,
@@ -30,13 +30,13 @@ enum Kind {
     Responder,
     /// Calls without table and store.
     Single,
-    /// A few calls on any octets lent as a table.
+    /// A few calls on any numbers lent as a table.
     AnyTable,
     /// A few calls on any octets lent as a store.
     AnyStore,
 }
 
-/// Lists on any octets are short, so they are made more often.
+/// Lists on any numbers or octets are short, so they are made more often.
 fn kind(random: &mut Random) -> Kind {
     if random.one_in(60) {
         random.pick(&[Kind::Client, Kind::Client, Kind::Responder, Kind::Single])
@@ -71,11 +71,11 @@ fn list(kind: Kind, seed: u64, keep: bool, met: &mut Met) -> Result<u64, String>
     }
 }
 
-/// Calls from a cleared table and store, compared with the plain ones and with lent octets.
+/// Calls from a cleared table and store, compared with the plain ones and with lent ones.
 fn reached(kind: Kind, random: &mut Random, keep: bool, met: &mut Met) -> Result<u64, String> {
     let records = random.pick(&[1, 1, 2, 3, 4, 8, 16, 63, 64]);
     let length = random.pick(&[10, 40, 160, 600, 2000]);
-    let (table, store) = (vec![0; reference::lent::TABLE_OCTETS], vec![0; 16 * records]);
+    let (table, store) = (vec![0; reference::lent::TABLE_NUMBERS], vec![0; 16 * records]);
     // The generator is shown this one; it is compared as the others are.
     let mut plain = Plain::new(records);
     let mut trial = Trial {
@@ -140,13 +140,13 @@ fn half_era(call: &Call, outcome: &Outcome, before: &Plain) -> Option<String> {
     Some(format!("half an era in {alone} alone, {}", met::interleaved(datagram)))
 }
 
-/// A few calls on any octets.
+/// A few calls on any numbers or octets.
 fn any(kind: Kind, random: &mut Random, keep: bool, met: &mut Met) -> Result<u64, String> {
     let on_table = kind == Kind::AnyTable;
     let (table, mut broken) = if on_table { make::lent::table(random) } else { Default::default() };
     let store = if on_table { Vec::new() } else { make::lent::store(random) };
     let lent = || match kind {
-        Kind::AnyTable => format!("# on a table with these octets: {}", line::octets(&table)),
+        Kind::AnyTable => format!("# on a table with these numbers: {}", line::numbers(&table)),
         _ => format!("lend {}", line::octets(&store)),
     };
     let length = 1 + random.below(6);
@@ -220,10 +220,10 @@ impl Trial {
 }
 
 /// Where two buffers differ first.
-fn differing(what: &str, library: &[u8], reference: &[u8]) -> Option<String> {
+fn differing<T: PartialEq>(what: &str, library: &[T], reference: &[T]) -> Option<String> {
     if library == reference {
         return None;
     }
     let at = library.iter().zip(reference).position(|(a, b)| a != b);
-    Some(format!("the {what} differs from the reference's at octet {at:?}"))
+    Some(format!("the {what} differs from the reference's at place {at:?}"))
 }

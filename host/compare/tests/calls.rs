@@ -32,5 +32,7 @@ fn reorderings_give_the_same() {
 
 #[test]
 fn table_has_its_size() {
-    assert_eq!(ntp5::ffi::calls::table_octets(), reference::lent::TABLE_OCTETS);
+    let numbers = ntp5::ffi::calls::table_words();
+    assert_eq!((numbers, 8 * numbers), (1280, 10_240));
+    assert_eq!(numbers, reference::lent::TABLE_NUMBERS);
 }

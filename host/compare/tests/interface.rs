@@ -99,14 +99,17 @@ fn header_and_rattle() {
 
 #[test]
 fn differences_are_found() {
-    let one = "typedef struct { uint8_t a; int8_t b, c; } ntp5_s; uint8_t ntp5_f(const uint8_t *p, size_t p_len);";
-    let rust = "#[repr(C)] struct S { pub a: u8, pub b: i8, pub c: i8 } fn ntp5_f(p: &[u8]) -> u8;";
+    let one = "typedef struct { uint8_t a; int8_t b, c; } ntp5_s; uint8_t ntp5_f(const uint8_t *p, size_t p_len, uint64_t *q, size_t q_len);";
+    let rust = "#[repr(C)] struct S { pub a: u8, pub b: i8, pub c: i8 } fn ntp5_f(p: &[u8], q: &mut [u64]) -> u8;";
     assert_eq!(Interface::of_c(one), Interface::of_rust(rust));
     for (from, to) in [
         ("b: i8", "b: u8"),
         ("a: u8", "z: u8"),
         ("a: u8, pub b: i8", "b: i8, pub a: u8"),
         ("&[u8]", "&mut [u8]"),
+        ("&[u8]", "&[u64]"),
+        ("&mut [u64]", "&[u64]"),
+        ("&mut [u64]", "&mut [u8]"),
         ("-> u8", "-> u16"),
         (", pub c: i8", ""),
         ("ntp5_f", "ntp5_g"),

@@ -98,7 +98,7 @@ fn unions() {
 }
 
 /// Opens an association and takes the filter from one response to its poll.
-fn follow(table: &mut Table<Vec<u8>>, association: u8, filter: &Filter) -> Result<(), Refusal> {
+fn follow(table: &mut Table<Vec<u64>>, association: u8, filter: &Filter) -> Result<(), Refusal> {
     let cookie = ClientCookie(9);
     table.open(association, 0, 512)?;
     table.poll(association, cookie, 6, Mode::Basic, &mut [0; 596])?;

@@ -8,8 +8,8 @@ use compare::make;
 use compare::make::head::{self, Clause, Head};
 use compare::plain::{Lent, Plain};
 use compare::random::Random;
-use reference::lent::TABLE_OCTETS;
-use reference::record::{NUMBERS, OCTETS};
+use reference::lent::TABLE_NUMBERS;
+use reference::record::{HEAD, NUMBERS};
 use reference::table::PLACES;
 use std::collections::BTreeSet;
 
@@ -44,22 +44,18 @@ fn in_range(head: &Head) -> bool {
                 false => [saved_timescale, saved_t1, saved_t2, saved_t3, known] == [0; 5],
             }
     };
-    *head == [0; NUMBERS] || state == 1 && open()
+    *head == [0; HEAD] || state == 1 && open()
 }
 
 /// The heads of a table's records.
-fn heads(table: &[u8]) -> Vec<Head> {
-    let (records, _) = table.as_chunks::<OCTETS>();
-    let head = |record: &[u8; OCTETS]| {
-        let (numbers, _) = record.as_chunks();
-        std::array::from_fn(|i| u64::from_be_bytes(numbers[i]))
-    };
-    records.iter().map(head).collect()
+fn heads(table: &[u64]) -> Vec<Head> {
+    let (records, _) = table.as_chunks::<NUMBERS>();
+    records.iter().map(|record| std::array::from_fn(|i| record[i])).collect()
 }
 
 /// The library and both sides of the reference, on cleared tables.
 fn cleared() -> [(&'static str, Box<dyn Side>); 3] {
-    let table = vec![0; TABLE_OCTETS];
+    let table = vec![0; TABLE_NUMBERS];
     [
         ("library", Box::new(Library::new(&table, &[], 0))),
         ("plain", Box::new(Plain::new(1))),
@@ -181,9 +177,8 @@ fn calls_on(association: u8) -> [Call; 7] {
 /// Makes every call on a record with this head, library and reference.
 fn hold(random: &mut Random, head: &Head) {
     let association = random.below(PLACES);
-    let mut table = vec![0; TABLE_OCTETS];
-    let octets = head.map(u64::to_be_bytes).concat();
-    table[OCTETS * association..][..octets.len()].copy_from_slice(&octets);
+    let mut table = vec![0; TABLE_NUMBERS];
+    table[NUMBERS * association..][..HEAD].copy_from_slice(head);
     let library = Library::new(&table, &[], 0);
     let lent = Lent { table: table.clone(), store: Vec::new() };
     let sides: [(&str, Box<dyn Side>); 2] =

@@ -46,31 +46,34 @@ pub enum Verdict {
     Clear = 3,
 }
 
-/// A client's table in octets that `B` owns or borrows. Associations are 0 to 15;
-/// any other is refused with 6, as are octets that are no table.
+/// A client's table in numbers that `B` owns or borrows. Associations are 0 to 15;
+/// any other is refused with 6, as are numbers that are no table.
+///
+/// It has 1,280 numbers, 80 for each association: a head of 16, then the filter's 64
+/// words. Word i is the filter's octets 8i to 8i + 7, the first of them the lowest.
 #[derive(Clone, Debug, PartialEq, Eq)]
 pub struct Table<B>(B);
 
-impl Table<Vec<u8>> {
+impl Table<Vec<u64>> {
     /// A table of its own, all associations closed.
     pub fn new() -> Self {
-        Table(vec![0; calls::table_octets()])
+        Table(vec![0; calls::table_words()])
     }
 }
 
-impl Default for Table<Vec<u8>> {
+impl Default for Table<Vec<u64>> {
     fn default() -> Self {
         Self::new()
     }
 }
 
-impl<B: AsRef<[u8]> + AsMut<[u8]>> Table<B> {
-    /// A table in any octets, as they are.
-    pub fn lent(octets: B) -> Self {
-        Table(octets)
+impl<B: AsRef<[u64]> + AsMut<[u64]>> Table<B> {
+    /// A table in any numbers, as they are.
+    pub fn lent(numbers: B) -> Self {
+        Table(numbers)
     }
 
-    /// Gives the octets back.
+    /// Gives the numbers back.
     pub fn into_inner(self) -> B {
         self.0
     }

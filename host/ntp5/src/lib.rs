@@ -1,8 +1,8 @@
 //! A safe wrapper of `libntp5.a`, an NTPv5 library with a C interface.
 //!
-//! The library keeps nothing between calls: a client's [`Table`] and a
-//! responder's [`Store`] lie in octets that the caller owns. A call that is
-//! refused changes nothing and gives a [`Refusal`].
+//! The library keeps nothing between calls: a client's [`Table`] lies in numbers and
+//! a responder's [`Store`] in octets that the caller owns. A call that is refused
+//! changes nothing and gives a [`Refusal`].
 //!
 //! The caller draws all cookies at random and never uses one twice: the library
 //! refuses only the repeats that it can see.

@@ -23,7 +23,7 @@ fn server(filter: &Filter) -> Server<'_> {
 
 /// Polls, answers and receives once; the response comes 30 after `at`.
 fn exchange(
-    table: &mut Table<Vec<u8>>,
+    table: &mut Table<Vec<u64>>,
     store: &mut Store<Vec<u8>>,
     filter: &Filter,
     mode: Mode,
@@ -62,8 +62,69 @@ fn client_and_responder() -> Result<(), Refusal> {
     assert_eq!(table.publish(1 << 3, &ID), Ok(filter));
     table.close(3)?;
     assert_eq!(table.close(3), Err(Refusal::State));
-    assert!(table.into_inner().iter().all(|&octet| octet == 0));
+    assert!(table.into_inner().iter().all(|&number| number == 0));
     Ok(())
+}
+
+/// A response to the request with this cookie, with these filter octets.
+fn response(cookie: ClientCookie, chunk: &[u8]) -> Result<Vec<u8>, Refusal> {
+    let mut datagram = vec![0; 48];
+    Header { mode: RESPONSE, client_cookie: cookie, ..Header::default() }.write(&mut datagram)?;
+    datagram.extend([0xF5, 0x04]);
+    datagram.extend((4 + chunk.len() as u16).to_be_bytes());
+    datagram.extend(chunk);
+    Ok(datagram)
+}
+
+/// Word i of the filter of association a is number 80a + 16 + i.
+#[test]
+fn filter_words_are_the_octets_taken() -> Result<(), Refusal> {
+    const LAST: u8 = 15;
+    let (mut table, mut filter) = (Table::new(), [0; 512]);
+    table.open(LAST, 0, 64)?;
+    // A whole pass of eight chunks, and the first two again.
+    for turn in 0..10_usize {
+        let cookie = ClientCookie(1 + turn as u64);
+        let chunk: [u8; 64] = std::array::from_fn(|i| (67 * turn + 3 * i + 1) as u8);
+        table.poll(LAST, cookie, 6, Mode::Basic, &mut [0; 148])?;
+        table.receive(LAST, &response(cookie, &chunk)?, 1)?;
+        filter[64 * turn % 512..][..64].copy_from_slice(&chunk);
+        let numbers = table.clone().into_inner();
+        let (others, own) = numbers.split_at(80 * usize::from(LAST));
+        let octets = own[16..].iter().flat_map(|word| word.to_le_bytes());
+        assert!(octets.eq(filter), "after chunk {turn}");
+        assert!(others.iter().all(|&number| number == 0), "after chunk {turn}");
+    }
+    Ok(())
+}
+
+/// What every call says of a table of this many sevens, and what they leave of it.
+fn made_on(length: usize) -> ([Option<Refusal>; 8], Vec<u64>) {
+    let mut table = Table::lent(vec![7; length]);
+    let refused = [
+        table.clear().err(),
+        table.open(0, 0, 16).err(),
+        table.poll(0, ClientCookie(1), 6, Mode::Basic, &mut [0; 100]).err(),
+        table.sent(0, 1).err(),
+        table.receive(0, &[0; 47], 1).err(),
+        table.loop_verdict(0, &ID).err(),
+        table.publish(0, &ID).err(),
+        table.close(0).err(),
+    ];
+    (refused, table.into_inner())
+}
+
+#[test]
+fn tables_of_another_length_are_refused() {
+    for length in [0, 1, 80, 1279, 1281, 2560] {
+        let (refused, left) = made_on(length);
+        assert_eq!(refused, [Some(Refusal::Argument); 8], "{length} numbers");
+        assert_eq!(left, vec![7; length]);
+    }
+    let (refused, left) = made_on(1280);
+    let received = Some(Refusal::DatagramLength);
+    assert_eq!(refused, [None, None, None, None, received, None, None, None]);
+    assert_eq!(left, vec![0; 1280]);
 }
 
 #[test]
@@ -139,8 +200,7 @@ fn refusals_have_their_numbers() {
     after_mac.extend([0xF5, 0x02, 0, 4, 0xF5, 0x01, 0, 4]);
     assert_eq!(ntp5::sound(&after_mac, 3), Err(Refusal::AfterMac));
     assert_eq!(ntp5::sound(&after_mac[..52], 3), Ok(()));
-    let mut odd = [0; 17];
-    assert_eq!(Store::lent(&mut odd).clear(), Err(Refusal::Argument));
-    assert_eq!(Table::lent(&mut odd).clear(), Err(Refusal::Argument));
+    assert_eq!(Store::lent(&mut [0_u8; 17]).clear(), Err(Refusal::Argument));
+    assert_eq!(Table::lent(&mut [0_u64; 17]).clear(), Err(Refusal::Argument));
     assert_eq!(Store::new(65).report(ServerCookie(1), 1), Err(Refusal::Argument));
 }

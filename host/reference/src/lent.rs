@@ -1,5 +1,6 @@
-//! The calls on lent octets, as the library's interface has them: any octets may
-//! be lent as a table or a store, and those that are none are refused with 6.
+//! The calls on a lent table or store, as the library's interface has them: any numbers
+//! may be lent as a table and any octets as a store, and those that are none are refused
+//! with 6.
 
 use crate::association::{Place, Verdict};
 use crate::exchange::{Mode, Received};
@@ -10,13 +11,13 @@ use crate::responder::{Occasion, Server};
 use crate::store::{self, Store};
 use crate::table::{Table, PLACES};
 
-/// Octets of a table.
-pub const TABLE_OCTETS: usize = PLACES * record::OCTETS;
+/// Numbers of a table.
+pub const TABLE_NUMBERS: usize = PLACES * record::NUMBERS;
 
-type Octets = [u8; record::OCTETS];
+type Numbers = [u64; record::NUMBERS];
 
 /// A lent table's records; 6 if its size is wrong.
-fn records(table: &[u8]) -> Result<&[Octets], Refusal> {
+fn records(table: &[u64]) -> Result<&[Numbers], Refusal> {
     let (records, rest) = table.as_chunks();
     if records.len() != PLACES || !rest.is_empty() {
         return Err(Refusal::Argument);
@@ -24,7 +25,7 @@ fn records(table: &[u8]) -> Result<&[Octets], Refusal> {
     Ok(records)
 }
 
-fn record_mut(table: &mut [u8], association: u8) -> Result<&mut Octets, Refusal> {
+fn record_mut(table: &mut [u64], association: u8) -> Result<&mut Numbers, Refusal> {
     records(table)?;
     let (records, _) = table.as_chunks_mut();
     records.get_mut(usize::from(association)).ok_or(Refusal::Argument)
@@ -32,7 +33,7 @@ fn record_mut(table: &mut [u8], association: u8) -> Result<&mut Octets, Refusal>
 
 /// Makes a call on one place of a lent table.
 fn on_place<T>(
-    table: &mut [u8],
+    table: &mut [u64],
     association: u8,
     call: impl FnOnce(&mut Place) -> Result<T, Refusal>,
 ) -> Result<T, Refusal> {
@@ -44,25 +45,25 @@ fn on_place<T>(
 }
 
 /// See [`Table::clear`]; 6 if the size is wrong.
-pub fn clear(table: &mut [u8]) -> Result<(), Refusal> {
+pub fn clear(table: &mut [u64]) -> Result<(), Refusal> {
     records(table)?;
     table.fill(0);
     Ok(())
 }
 
 /// See [`Place::open`].
-pub fn open(table: &mut [u8], association: u8, timescale: u8, chunk: u16) -> Result<(), Refusal> {
+pub fn open(table: &mut [u64], association: u8, timescale: u8, chunk: u16) -> Result<(), Refusal> {
     on_place(table, association, |place| place.open(timescale, chunk))
 }
 
 /// See [`Place::close`].
-pub fn close(table: &mut [u8], association: u8) -> Result<(), Refusal> {
+pub fn close(table: &mut [u64], association: u8) -> Result<(), Refusal> {
     on_place(table, association, Place::close)
 }
 
 /// See [`Place::poll`].
 pub fn poll(
-    table: &mut [u8],
+    table: &mut [u64],
     association: u8,
     cookie: ClientCookie,
     exponent: i8,
@@ -73,13 +74,13 @@ pub fn poll(
 }
 
 /// See [`Place::sent`].
-pub fn sent(table: &mut [u8], association: u8, t1: u64) -> Result<(), Refusal> {
+pub fn sent(table: &mut [u64], association: u8, t1: u64) -> Result<(), Refusal> {
     on_place(table, association, |place| place.sent(t1))
 }
 
 /// See [`Place::receive`].
 pub fn receive(
-    table: &mut [u8],
+    table: &mut [u64],
     association: u8,
     datagram: &[u8],
     t4: u64,
@@ -88,13 +89,13 @@ pub fn receive(
 }
 
 /// See [`Place::verdict`].
-pub fn verdict(table: &[u8], association: u8, id: &[u8]) -> Result<Verdict, Refusal> {
+pub fn verdict(table: &[u64], association: u8, id: &[u8]) -> Result<Verdict, Refusal> {
     let record = records(table)?.get(usize::from(association));
     record::decode(record.ok_or(Refusal::Argument)?)?.verdict(id)
 }
 
 /// See [`Table::publish`]; only the selected records are looked at.
-pub fn publish(table: &[u8], selected: u16, id: &[u8], out: &mut [u8]) -> Result<usize, Refusal> {
+pub fn publish(table: &[u64], selected: u16, id: &[u8], out: &mut [u8]) -> Result<usize, Refusal> {
     let mut plain = Table::default();
     for (i, record) in records(table)?.iter().enumerate() {
         if selected >> i & 1 == 1 {

@@ -3,7 +3,8 @@
 //! It shares no code with the library, so that a difference between the two
 //! shows an error in one of them. It is also the benchmark's rival: a table
 //! ([`table::Table`]) and a store ([`store::Store`]) are ordinary values here.
-//! [`lent`] makes the same calls on lent octets, any octets, as the library does.
+//! [`lent`] makes the same calls on a lent table and store, whatever stands in them, as
+//! the library does.
 #![forbid(unsafe_code)]
 #![warn(missing_docs)]
 

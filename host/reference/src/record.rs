@@ -1,7 +1,7 @@
-//! A place as the 640 octets in which a lent table keeps it.
+//! A place as the 80 numbers in which a lent table keeps it.
 //!
-//! Sixteen numbers of 8 octets, highest first, then the filter. What is absent
-//! is 0, and a closed place's numbers are all 0.
+//! A head of sixteen, then the filter's 64 words: word i is octets 8i to 8i + 7, the
+//! first of them the lowest. What is absent is 0, and a closed place's numbers are all 0.
 
 use crate::association::{Association, Place, Taken, CHUNK_SIZES};
 use crate::exchange::{Request, Saved};
@@ -10,31 +10,29 @@ use crate::header::{ClientCookie, ServerCookie};
 use crate::measure::Times;
 use crate::refusal::Refusal;
 
-/// Numbers in a record's head.
-pub const NUMBERS: usize = 16;
-/// Octets of a record.
-pub const OCTETS: usize = 8 * NUMBERS + FILTER_OCTETS;
+/// Numbers of a record's head.
+pub const HEAD: usize = 16;
+/// Words of a filter.
+pub const WORDS: usize = FILTER_OCTETS / 8;
+/// Numbers of a record.
+pub const NUMBERS: usize = HEAD + WORDS;
 
 /// The head's numbers, in the order of their places.
-type Head = [u64; NUMBERS];
+type Head = [u64; HEAD];
 
 /// Reads a record; 6 if one of its numbers is out of range, that is if no calls on a
-/// cleared table lead to its head. The filter's octets are not looked at.
-pub fn decode(record: &[u8; OCTETS]) -> Result<Place, Refusal> {
-    let (octets, filter) = record.split_at(8 * NUMBERS);
-    let mut head: Head = [0; NUMBERS];
-    for (number, octets) in head.iter_mut().zip(octets.chunks_exact(8)) {
-        *number = octets.try_into().map_or(0, u64::from_be_bytes);
-    }
-    if head == [0; NUMBERS] {
+/// cleared table lead to its head. The filter's words are not looked at.
+pub fn decode(record: &[u64; NUMBERS]) -> Result<Place, Refusal> {
+    let (head, words) = record.split_first_chunk().ok_or(Refusal::Argument)?;
+    if *head == [0; HEAD] {
         return Ok(Place(None));
     }
-    let open = opened(&head, filter).ok_or(Refusal::Argument)?;
+    let open = opened(head, words).ok_or(Refusal::Argument)?;
     Ok(Place(Some(open)))
 }
 
 /// The association of an open record, if calls on a cleared table can lead to it.
-fn opened(head: &Head, filter: &[u8]) -> Option<Association> {
+fn opened(head: &Head, words: &[u64]) -> Option<Association> {
     let &[1, timescale, chunk, next, count, last, ..] = head else {
         return None;
     };
@@ -54,7 +52,7 @@ fn opened(head: &Head, filter: &[u8]) -> Option<Association> {
         timescale: timescale.try_into().ok()?,
         chunk,
         next_offset,
-        filter: Filter(filter.try_into().ok()?),
+        filter: filter_of(words),
         taken: Taken::first(count as usize),
         last_cookie: (last != 0).then_some(ClientCookie(last)),
         outstanding,
@@ -99,23 +97,36 @@ fn outstanding(head: &Head, next_offset: u16) -> Option<Option<Request>> {
     }
 }
 
-/// A place's octets.
-pub fn encode(place: &Place) -> [u8; OCTETS] {
-    let mut record = [0; OCTETS];
-    let Some(open) = &place.0 else {
-        return record;
-    };
-    let (octets, filter) = record.split_at_mut(8 * NUMBERS);
-    for (octets, number) in octets.chunks_exact_mut(8).zip(numbers(open)) {
-        octets.copy_from_slice(&number.to_be_bytes());
+/// A place's numbers.
+pub fn encode(place: &Place) -> [u64; NUMBERS] {
+    let mut record = [0; NUMBERS];
+    if let Some(open) = &place.0 {
+        let (head, words) = record.split_at_mut(HEAD);
+        head.copy_from_slice(&head_of(open));
+        put_words(words, &open.filter);
     }
-    filter.copy_from_slice(&open.filter.0);
     record
 }
 
+/// The filter of a record's words.
+fn filter_of(words: &[u64]) -> Filter {
+    let mut filter = Filter::FRESH;
+    for (octets, word) in filter.0.as_chunks_mut().0.iter_mut().zip(words) {
+        *octets = word.to_le_bytes();
+    }
+    filter
+}
+
+/// The words of a filter go into a record.
+fn put_words(words: &mut [u64], filter: &Filter) {
+    for (word, octets) in words.iter_mut().zip(filter.0.as_chunks().0) {
+        *word = u64::from_le_bytes(*octets);
+    }
+}
+
 /// The head of an open association.
-fn numbers(open: &Association) -> Head {
-    let mut head = [0; NUMBERS];
+fn head_of(open: &Association) -> Head {
+    let mut head = [0; HEAD];
     head[0] = 1;
     head[1] = open.timescale.into();
     head[2] = open.chunk.into();

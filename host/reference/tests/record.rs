@@ -1,12 +1,12 @@
 //! The ranges of a record's numbers, which heads are refused with 6.
 #![forbid(unsafe_code)]
 
-use reference::record::{decode, encode, NUMBERS, OCTETS};
+use reference::record::{decode, encode, HEAD, NUMBERS};
 use reference::refusal::Refusal;
 
-type Head = [u64; NUMBERS];
+type Head = [u64; HEAD];
 
-const CLOSED: Head = [0; NUMBERS];
+const CLOSED: Head = [0; HEAD];
 /// As opened.
 const OPENED: Head = [1, 0, 16, 0, 0, 0, 0, 0, 0, 0, 0, 0, 0, 0, 0, 0];
 /// Polled once.
@@ -23,14 +23,10 @@ fn with(mut head: Head, changes: &[(usize, u64)]) -> Head {
 }
 
 /// A record with this head.
-fn record(head: &Head) -> [u8; OCTETS] {
-    let mut record = [0xA5; OCTETS];
-    if *head == CLOSED {
-        record.fill(0);
-    }
-    for (octets, number) in record.chunks_exact_mut(8).zip(head) {
-        octets.copy_from_slice(&number.to_be_bytes());
-    }
+fn record(head: &Head) -> [u64; NUMBERS] {
+    let word = if *head == CLOSED { 0 } else { 0xA5A4_A3A2_A1A0_9F9E };
+    let mut record = [word; NUMBERS];
+    record[..HEAD].copy_from_slice(head);
     record
 }
 
@@ -100,8 +96,19 @@ fn heads_out_of_range_are_refused() {
 
 #[test]
 fn what_is_absent_is_zero() {
-    let closed = (1..NUMBERS).map(|at| with(CLOSED, &[(at, 16)]));
+    let closed = (1..HEAD).map(|at| with(CLOSED, &[(at, 16)]));
     let nothing_outstanding = (7..10).map(|at| with(SAVED, &[(at, SAVED[3])]));
     let nothing_saved = [10, 11, 12, 13, 15].into_iter().map(|at| with(POLLED, &[(at, 1)]));
     closed.chain(nothing_outstanding).chain(nothing_saved).for_each(|head| refused(&head));
+}
+
+#[test]
+fn w210_a_filter_is_kept_as_words() {
+    let mut record = record(&SAVED);
+    let chunk: [u8; 16] = std::array::from_fn(|i| 0x11 + i as u8);
+    let mut place = decode(&record).expect("in range");
+    place.0.as_mut().expect("open").filter.0[496..].copy_from_slice(&chunk);
+    record[NUMBERS - 2..].copy_from_slice(&[0x1817_1615_1413_1211, 0x201F_1E1D_1C1B_1A19]);
+    assert_eq!(encode(&place), record);
+    assert!(decode(&record) == Ok(place));
 }

@@ -1,7 +1,7 @@
 -- `change` meets its contract: each call has the values of its words. Assumes nothing.
 use mathlib.Core.Path.{ap, _∙_}
 use Rattle.client_rules.specs.Call.{Call}
-use Rattle.client_rules.specs.Octets.{stepOctets}
+use Rattle.client_rules.specs.Numbers.{stepNumbers}
 use Rattle.changes.proofs.Changing.{change-clear, change-open, change-close, change-sent}
 use borrow.Author.Needs.{needs}
 use Rattle.changes.proofs.change.Statement.{statement}
@@ -39,7 +39,7 @@ returns c =
     let at = c .before .before in
     let m = at .before .before in
     let a = m .before .before .before .before .args in
-    at .clear .ensures ∙ ap (λ (x : Call). stepOctets x (a .table .now)) (change-clear _ _ (m .match .keys1))
+    at .clear .ensures ∙ ap (λ (x : Call). stepNumbers x (a .table .now)) (change-clear _ _ (m .match .keys1))
 
 same-length-2 : tie.Need-same-length-2
 same-length-2 c = search needs
@@ -50,7 +50,7 @@ returns-2 c =
     let m = at .before .before .before .before in
     let a = m .before .before .before .before .args in
     at .«open» .ensures
-    ∙ ap (λ (x : Call). stepOctets x (a .table .now))
+    ∙ ap (λ (x : Call). stepNumbers x (a .table .now))
     (change-open _ _ _ _ _ (m .match .keys2) (m .before .u8-at .ensures) (at .before .before .u8-at2 .ensures) (at .before .u16-at .ensures))
 
 same-length-3 : tie.Need-same-length-3
@@ -61,7 +61,7 @@ returns-3 c =
     let at = c .before .before in
     let m = at .before .before in
     let a = m .before .before .before .before .args in
-    at .close .ensures ∙ ap (λ (x : Call). stepOctets x (a .table .now)) (change-close _ _ _ (m .match .keys3) (m .before .u8-at .ensures))
+    at .close .ensures ∙ ap (λ (x : Call). stepNumbers x (a .table .now)) (change-close _ _ _ (m .match .keys3) (m .before .u8-at .ensures))
 
 same-length-4 : tie.Need-same-length-4
 same-length-4 c = search needs
@@ -73,7 +73,7 @@ returns-4 c =
     let r = m .match .rest in
     let a = m .before .before .before .before .args in
     at .sent .ensures
-    ∙ ap (λ (x : Call). stepOctets x (a .table .now))
+    ∙ ap (λ (x : Call). stepNumbers x (a .table .now))
     (change-sent _ _ _ _ (r .0 .0 .1) (r .0 .1) (r .1) (m .before .u8-at .ensures) (at .before .u64-at .ensures))
 
 pub change-spec : {M : Type 1} → statement M

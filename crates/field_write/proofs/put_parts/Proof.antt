@@ -64,9 +64,10 @@ returns c =
     let at-copy = at-zero .before .before .before .before in
     let at-put162 = at-copy .before .before .before .before in
     let at-put16 = at-put162 .before .before .before .before in
-    let start = at-put16 .before .before .before .before in
+    let at-known = at-put16 .before .before in
+    let start = at-known .before .before in
     let a = start .args in
-    parts-written (a .kind) (a .zeros) (a .at) (a .source .now) (a .out .now) (start .pre .1)
+    parts-written (a .kind) (a .zeros) (a .at) (a .source .now) (a .out .now) (λ j. at-known .shared-slice-known .given j .fits) (start .pre .1)
     (at-put16 .put16 .ensures)
     (at-put162 .put162 .ensures)
     (at-copy .copy .ensures)

@@ -116,7 +116,7 @@ pub(super) const UNION: Sides = single(
 
 pub(super) const MEASURE: Sides = single(library_measure, rival_measure);
 
-/// A call without table and store is the same on lent octets.
+/// A call without table and store is the same on both sides of the reference.
 const fn single(library: fn(&mut State), plain: fn(&mut State)) -> Sides {
     [library, plain, plain]
 }

@@ -1,8 +1,8 @@
 //! What a call costs in the library and in the reference, in instructions and in time.
 //!
-//! Each case is made on three sides. The rival is the reference on lent octets, which
-//! does all that the library does, with the same tests of what was lent; beside it
-//! stands the reference on its plain table and store, which trusts what it keeps.
+//! Each case is made on three sides. The rival is the reference on the same lent table
+//! and store, which does all that the library does, with the same tests of what was lent;
+//! beside it stands the reference on its plain ones, which trusts what it keeps.
 
 mod calls;
 pub mod cases;
@@ -24,7 +24,7 @@ pub enum Side {
     Library,
     /// The reference on its plain table and store.
     Plain,
-    /// The reference on lent octets.
+    /// The reference on a lent table and store.
     Lent,
 }
 

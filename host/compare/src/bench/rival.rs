@@ -141,7 +141,7 @@ pub mod plain {
     }
 }
 
-/// On lent octets.
+/// On a lent table and store.
 pub mod lent {
     use reference::association::Verdict;
     use reference::exchange::{Mode, Received};
@@ -152,50 +152,50 @@ pub mod lent {
 
     /// See [`lent::clear`].
     #[inline(never)]
-    pub fn clear(table: &mut [u8]) -> Result<(), Refusal> {
+    pub fn clear(table: &mut [u64]) -> Result<(), Refusal> {
         lent::clear(table)
     }
 
     /// See [`lent::open`].
     #[inline(never)]
-    pub fn open(table: &mut [u8], timescale: u8, chunk: u16) -> Result<(), Refusal> {
+    pub fn open(table: &mut [u64], timescale: u8, chunk: u16) -> Result<(), Refusal> {
         lent::open(table, 0, timescale, chunk)
     }
 
     /// See [`lent::close`].
     #[inline(never)]
-    pub fn close(table: &mut [u8]) -> Result<(), Refusal> {
+    pub fn close(table: &mut [u64]) -> Result<(), Refusal> {
         lent::close(table, 0)
     }
 
     /// See [`lent::poll`].
     #[inline(never)]
-    pub fn poll(table: &mut [u8], cookie: u64, out: &mut [u8]) -> Result<usize, Refusal> {
+    pub fn poll(table: &mut [u64], cookie: u64, out: &mut [u8]) -> Result<usize, Refusal> {
         lent::poll(table, 0, ClientCookie(cookie), 6, Mode::Basic, out)
     }
 
     /// See [`lent::sent`].
     #[inline(never)]
-    pub fn sent(table: &mut [u8], t1: u64) -> Result<(), Refusal> {
+    pub fn sent(table: &mut [u64], t1: u64) -> Result<(), Refusal> {
         lent::sent(table, 0, t1)
     }
 
     /// See [`lent::receive`].
     #[inline(never)]
-    pub fn receive(table: &mut [u8], datagram: &[u8], t4: u64) -> Result<Received, Refusal> {
+    pub fn receive(table: &mut [u64], datagram: &[u8], t4: u64) -> Result<Received, Refusal> {
         lent::receive(table, 0, datagram, t4)
     }
 
     /// See [`lent::verdict`].
     #[inline(never)]
-    pub fn verdict(table: &[u8], id: &[u8]) -> Result<Verdict, Refusal> {
+    pub fn verdict(table: &[u64], id: &[u8]) -> Result<Verdict, Refusal> {
         lent::verdict(table, 0, id)
     }
 
     /// See [`lent::publish`].
     #[inline(never)]
     pub fn publish(
-        table: &[u8],
+        table: &[u64],
         selected: u16,
         id: &[u8],
         out: &mut [u8],

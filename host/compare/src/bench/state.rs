@@ -9,8 +9,8 @@ use reference::responder::{Occasion, Server};
 use reference::store::Store;
 use reference::table::Table;
 
-/// Octets of a table's record.
-const RECORD: usize = record::OCTETS;
+/// Numbers of a table's record.
+const RECORD: usize = record::NUMBERS;
 
 /// The server cookie of a store's first record; the others have the numbers after it.
 pub(super) const FIRST_COOKIE: u64 = 1000;
@@ -20,8 +20,8 @@ pub(super) const FIRST_COOKIE: u64 = 1000;
 pub struct State {
     pub plain: Table,
     pub plain_was: Table,
-    pub table: Vec<u8>,
-    pub table_was: Vec<u8>,
+    pub table: Vec<u64>,
+    pub table_was: Vec<u64>,
     pub plain_store: Store,
     pub plain_store_was: Store,
     pub store: Vec<u8>,
@@ -171,7 +171,7 @@ pub(super) fn complete_table(then: fn(&mut Table)) -> Table {
 }
 
 /// Polls, and answers with a filter that is all ones.
-pub(super) fn exchange(plain: &mut Table, store: &mut Store, cookie: u64) -> Vec<u8> {
+fn exchange(plain: &mut Table, store: &mut Store, cookie: u64) -> Vec<u8> {
     let (mut request, mut response) = ([0; 600], vec![0; 600]);
     let polled = plain.poll(0, ClientCookie(cookie), 6, Mode::Interleaved, &mut request);
     let length = polled.expect("a request");

@@ -1,9 +1,9 @@
 //! `bench`: what each call costs in the library and in the reference.
 //!
 //! It prints a table and, for programs, a line `ratio NAME X.XX` for each call: the
-//! library's instructions over those of the reference on the same lent octets, with
-//! the tests of them by N-9, N-10, N-13 and N-14. `ratio-plain NAME X.XX` is over those
-//! of the reference on structs of its own, which it neither loads, tests nor stores.
+//! library's instructions over those of the reference on the same lent table and store,
+//! with the tests of them by N-9, N-10, N-13 and N-14. `ratio-plain NAME X.XX` is over
+//! those of the reference on structs of its own, which it neither loads, tests nor stores.
 //! A second table has each call on what costs the library the most.
 #![forbid(unsafe_code)]
 
@@ -84,7 +84,7 @@ fn print_table(rows: &[Row]) {
 
 fn print(usual: &[Row], worst: &[Row]) {
     println!("instructions and best time of a call; cold: after other work; lent: the reference");
-    println!("on octets, with the library's tests; plain: on a table and store of its own\n");
+    println!("on what is lent, with the library's tests; plain: on a table and store of its own\n");
     print_table(usual);
     println!("the same on what costs the library the most\n");
     print_table(worst);

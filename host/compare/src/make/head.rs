@@ -2,10 +2,10 @@
 
 use crate::random::Random;
 use reference::association::CHUNK_SIZES;
-use reference::record::NUMBERS;
+use reference::record::HEAD;
 
 /// A record's sixteen numbers, in the order of their places.
-pub type Head = [u64; NUMBERS];
+pub type Head = [u64; HEAD];
 
 /// Numbers at which a range begins or ends, or near them.
 const EDGES: [u64; 18] =
@@ -84,7 +84,7 @@ impl Clause {
 /// A head in range: closed once in a while, mostly open.
 pub fn in_range(random: &mut Random) -> Head {
     if random.one_in(10) {
-        return [0; NUMBERS];
+        return [0; HEAD];
     }
     let (asked, saved) = (random.one_in(2), random.below(3) > 0);
     open(random, asked, saved)
@@ -92,7 +92,7 @@ pub fn in_range(random: &mut Random) -> Head {
 
 /// An open head in range, with or without a request outstanding and something saved.
 fn open(random: &mut Random, asked: bool, saved: bool) -> Head {
-    let mut head = [0; NUMBERS];
+    let mut head = [0; HEAD];
     let c = random.pick(&CHUNK_SIZES).into();
     head[0] = 1;
     head[1] = timescale(random);
@@ -144,7 +144,7 @@ fn such(random: &mut Random, wrong: impl Fn(u64) -> bool) -> u64 {
 /// A head in range but for one number, which may be any.
 pub fn changed(random: &mut Random) -> Head {
     let mut head = in_range(random);
-    head[random.below(NUMBERS)] = number(random);
+    head[random.below(HEAD)] = number(random);
     head
 }
 
@@ -152,7 +152,7 @@ pub fn changed(random: &mut Random) -> Head {
 pub fn broken(random: &mut Random, clause: Clause) -> Head {
     let (asked, saved) = clause.occasion(random);
     let mut head = match clause {
-        Clause::Closed => [0; NUMBERS],
+        Clause::Closed => [0; HEAD],
         _ => open(random, asked, saved),
     };
     let [state, _, _, next, taken, ..] = head;
@@ -172,7 +172,7 @@ fn wrong(random: &mut Random, clause: Clause, head: &Head) -> (usize, u64) {
     let offered = |n: u64| CHUNK_SIZES.iter().any(|&size| n == size.into());
     match clause {
         Clause::State => (0, such(random, |n| n > 1)),
-        Clause::Closed => (1 + random.below(NUMBERS - 1), such(random, |n| n != 0)),
+        Clause::Closed => (1 + random.below(HEAD - 1), such(random, |n| n != 0)),
         Clause::Timescale => (1, such(random, |n| n > 255)),
         Clause::ChunkSize => (2, such(random, |n| !offered(n))),
         Clause::NextOffset => (3, such(random, |n| n >= 512 || n % c != 0)),

@@ -1,9 +1,9 @@
-//! Any octets as a table or a store: reached, nearly so, and not at all.
+//! Any numbers as a table, any octets as a store: reached, nearly so, and not at all.
 
 use super::head::{self, Clause};
 use crate::random::Random;
 use reference::association::Place;
-use reference::filter;
+use reference::lent::TABLE_NUMBERS;
 use reference::record;
 use reference::store::{Record, Store};
 use reference::table::{Table, PLACES};
@@ -11,27 +11,27 @@ use reference::table::{Table, PLACES};
 /// The clause that is broken in each record's head, where it is known.
 pub type Broken = [Option<Clause>; PLACES];
 
-/// Octets to be lent as a table.
-pub fn table(random: &mut Random) -> (Vec<u8>, Broken) {
-    let mut octets = Vec::with_capacity(PLACES * record::OCTETS);
+/// Numbers to be lent as a table.
+pub fn table(random: &mut Random) -> (Vec<u64>, Broken) {
+    let mut numbers = Vec::with_capacity(TABLE_NUMBERS);
     let mut broken = [None; PLACES];
     for clause in &mut broken {
-        *clause = place(random, &mut octets);
+        *clause = place(random, &mut numbers);
     }
     if random.one_in(30) {
-        let size = random.pick(&[0, 1, 640, 10_239, 10_241, 16_384]);
-        octets.resize(size, 0);
+        let size = random.pick(&[0, 1, 80, 1279, 1281, 2048, 10_240]);
+        numbers.resize(size, 0);
         broken = [None; PLACES];
     }
-    (octets, broken)
+    (numbers, broken)
 }
 
 /// Appends a record: its head in range, with a clause broken or with any one number, or any
-/// octets.
-fn place(random: &mut Random, octets: &mut Vec<u8>) -> Option<Clause> {
+/// numbers.
+fn place(random: &mut Random, numbers: &mut Vec<u64>) -> Option<Clause> {
     let (head, broken) = match random.below(20) {
         0..2 => {
-            octets.extend(random.octets(record::OCTETS));
+            numbers.extend(random.numbers(record::NUMBERS));
             return None;
         }
         2..7 => {
@@ -41,15 +41,15 @@ fn place(random: &mut Random, octets: &mut Vec<u8>) -> Option<Clause> {
         7..11 => (head::changed(random), None),
         _ => (head::in_range(random), None),
     };
-    octets.extend(head.map(u64::to_be_bytes).concat());
-    octets.extend(random.octets(filter::OCTETS));
+    numbers.extend(head);
+    numbers.extend(random.numbers(record::WORDS));
     broken
 }
 
 /// What a generator of calls may know of a table: its records that can be read.
-pub fn known_table(octets: &[u8]) -> Table {
+pub fn known_table(numbers: &[u64]) -> Table {
     let mut table = Table::default();
-    let (records, _) = octets.as_chunks();
+    let (records, _) = numbers.as_chunks();
     for (place, record) in table.places.iter_mut().zip(records) {
         *place = record::decode(record).unwrap_or(Place(None));
     }

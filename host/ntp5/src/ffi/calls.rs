@@ -1,69 +1,71 @@
 //! One safe function for each call, on slices and numbers as the C interface has them.
 //!
 //! They are safe because every pointer is made from a slice: it points to as many
-//! octets as its length says, and an exclusive slice overlaps with no other. The
-//! library takes any octets, and keeps no pointer.
+//! octets or numbers as its length says, aligned as they are, and an exclusive slice
+//! overlaps with no other. The library takes any contents, and keeps no pointer.
 
 use super::*;
 use crate::responder::{Occasion, Server};
 
-/// The size of a table.
-pub fn table_octets() -> usize {
-    unsafe { ntp5_table_octets() }
+/// The size of a table in numbers.
+pub fn table_words() -> usize {
+    unsafe { ntp5_table_words() }
 }
 
 /// Closes all associations.
-pub fn clear(table: &mut [u8]) -> u8 {
+pub fn clear(table: &mut [u64]) -> u8 {
     unsafe { ntp5_clear(table.as_mut_ptr(), table.len()) }
 }
 
 /// Opens an association.
-pub fn open(table: &mut [u8], association: u8, timescale: u8, chunk: u16) -> u8 {
-    let (octets, len) = (table.as_mut_ptr(), table.len());
-    unsafe { ntp5_open(octets, len, association, timescale, chunk) }
+pub fn open(table: &mut [u64], association: u8, timescale: u8, chunk: u16) -> u8 {
+    let (numbers, len) = (table.as_mut_ptr(), table.len());
+    unsafe { ntp5_open(numbers, len, association, timescale, chunk) }
 }
 
 /// Closes an association.
-pub fn close(table: &mut [u8], association: u8) -> u8 {
+pub fn close(table: &mut [u64], association: u8) -> u8 {
     unsafe { ntp5_close(table.as_mut_ptr(), table.len(), association) }
 }
 
 /// Writes a request, which becomes the outstanding one.
 pub fn poll(
-    table: &mut [u8],
+    table: &mut [u64],
     association: u8,
     client_cookie: u64,
     poll: i8,
     interleaved: bool,
     out: &mut [u8],
 ) -> Written {
-    let (octets, len) = (table.as_mut_ptr(), table.len());
+    let (numbers, len) = (table.as_mut_ptr(), table.len());
     let (room, room_len) = (out.as_mut_ptr(), out.len());
-    unsafe { ntp5_poll(octets, len, association, client_cookie, poll, interleaved, room, room_len) }
+    unsafe {
+        ntp5_poll(numbers, len, association, client_cookie, poll, interleaved, room, room_len)
+    }
 }
 
 /// Reports the outstanding request's T1.
-pub fn sent(table: &mut [u8], association: u8, t1: u64) -> u8 {
+pub fn sent(table: &mut [u64], association: u8, t1: u64) -> u8 {
     unsafe { ntp5_sent(table.as_mut_ptr(), table.len(), association, t1) }
 }
 
 /// Takes a datagram that came at T4.
-pub fn receive(table: &mut [u8], association: u8, datagram: &[u8], t4: u64) -> Received {
-    let (octets, len) = (table.as_mut_ptr(), table.len());
-    unsafe { ntp5_receive(octets, len, association, datagram.as_ptr(), datagram.len(), t4) }
+pub fn receive(table: &mut [u64], association: u8, datagram: &[u8], t4: u64) -> Received {
+    let (numbers, len) = (table.as_mut_ptr(), table.len());
+    unsafe { ntp5_receive(numbers, len, association, datagram.as_ptr(), datagram.len(), t4) }
 }
 
 /// Whether an association's filter shows an ID.
-pub fn loop_verdict(table: &[u8], association: u8, id: &[u8]) -> Verdict {
-    let (octets, len) = (table.as_ptr(), table.len());
-    unsafe { ntp5_loop_verdict(octets, len, association, id.as_ptr(), id.len()) }
+pub fn loop_verdict(table: &[u64], association: u8, id: &[u8]) -> Verdict {
+    let (numbers, len) = (table.as_ptr(), table.len());
+    unsafe { ntp5_loop_verdict(numbers, len, association, id.as_ptr(), id.len()) }
 }
 
 /// Writes the union of the selected filters with the own ID added.
-pub fn publish(table: &[u8], selected: u16, id: &[u8], out: &mut [u8]) -> Written {
-    let (octets, len) = (table.as_ptr(), table.len());
+pub fn publish(table: &[u64], selected: u16, id: &[u8], out: &mut [u8]) -> Written {
+    let (numbers, len) = (table.as_ptr(), table.len());
     let (room, room_len) = (out.as_mut_ptr(), out.len());
-    unsafe { ntp5_publish(octets, len, selected, id.as_ptr(), id.len(), room, room_len) }
+    unsafe { ntp5_publish(numbers, len, selected, id.as_ptr(), id.len(), room, room_len) }
 }
 
 /// Makes all records of a store unused.

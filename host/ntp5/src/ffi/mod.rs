@@ -95,18 +95,18 @@ pub struct Read {
 
 #[rustfmt::skip]
 extern "C" {
-    fn ntp5_table_octets() -> usize;
-    fn ntp5_clear(table: *mut u8, table_len: usize) -> u8;
-    fn ntp5_open(table: *mut u8, table_len: usize, association: u8, timescale: u8, chunk: u16) -> u8;
-    fn ntp5_close(table: *mut u8, table_len: usize, association: u8) -> u8;
-    fn ntp5_poll(table: *mut u8, table_len: usize, association: u8, client_cookie: u64, poll: i8,
+    fn ntp5_table_words() -> usize;
+    fn ntp5_clear(table: *mut u64, table_len: usize) -> u8;
+    fn ntp5_open(table: *mut u64, table_len: usize, association: u8, timescale: u8, chunk: u16) -> u8;
+    fn ntp5_close(table: *mut u64, table_len: usize, association: u8) -> u8;
+    fn ntp5_poll(table: *mut u64, table_len: usize, association: u8, client_cookie: u64, poll: i8,
         interleaved: bool, out: *mut u8, out_len: usize) -> Written;
-    fn ntp5_sent(table: *mut u8, table_len: usize, association: u8, t1: u64) -> u8;
-    fn ntp5_receive(table: *mut u8, table_len: usize, association: u8, datagram: *const u8,
+    fn ntp5_sent(table: *mut u64, table_len: usize, association: u8, t1: u64) -> u8;
+    fn ntp5_receive(table: *mut u64, table_len: usize, association: u8, datagram: *const u8,
         datagram_len: usize, t4: u64) -> Received;
-    fn ntp5_loop_verdict(table: *const u8, table_len: usize, association: u8, id: *const u8,
+    fn ntp5_loop_verdict(table: *const u64, table_len: usize, association: u8, id: *const u8,
         id_len: usize) -> Verdict;
-    fn ntp5_publish(table: *const u8, table_len: usize, selected: u16, id: *const u8, id_len: usize,
+    fn ntp5_publish(table: *const u64, table_len: usize, selected: u16, id: *const u8, id_len: usize,
         out: *mut u8, out_len: usize) -> Written;
     fn ntp5_store_clear(store: *mut u8, store_len: usize) -> u8;
     fn ntp5_report(store: *mut u8, store_len: usize, server_cookie: u64, time: u64) -> u8;

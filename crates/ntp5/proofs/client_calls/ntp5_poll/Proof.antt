@@ -6,7 +6,7 @@ use mir.Syntax.{w8}
 use mir.Val.{toZ, ofZ}
 use mir.Facts.{toZ-ofZ}
 use Rattle.client_rules.specs.Call.{poll}
-use Rattle.client_rules.specs.Octets.{stepOctets}
+use Rattle.client_rules.specs.Numbers.{stepNumbers}
 use Rattle.client.specs.Answers.{isInterleaved}
 use Rattle.c_structs.proofs.Converted.{polled-converted}
 use borrow.Author.Needs.{needs}
@@ -35,8 +35,8 @@ returns c =
     let a = start .args in
     let exponent : toZ w8 (ofZ w8 (a .exponent)) ≡ a .exponent = toZ-ofZ (start .fits .exponent) in
     polled-converted _ _ _ (at .poll .result) (c .of-polled .ensures) ∙ at .poll .ensures
-    ∙ ap (λ (e : ℤ). stepOctets (poll (a .association) (a .client-cookie) e (isInterleaved (at .before .before .before .mode .result)) (a .out .now)) (a .table .now)) exponent
-    ∙ ap (λ (i : Bool). stepOctets (poll (a .association) (a .client-cookie) (a .exponent) i (a .out .now)) (a .table .now)) (at .before .before .before .mode .ensures)
+    ∙ ap (λ (e : ℤ). stepNumbers (poll (a .association) (a .client-cookie) e (isInterleaved (at .before .before .before .mode .result)) (a .out .now)) (a .table .now)) exponent
+    ∙ ap (λ (i : Bool). stepNumbers (poll (a .association) (a .client-cookie) (a .exponent) i (a .out .now)) (a .table .now)) (at .before .before .before .mode .ensures)
 
 pub ntp5-poll-spec : {M : Type 1} → statement M
 ntp5-poll-spec =

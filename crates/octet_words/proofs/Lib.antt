@@ -1,0 +1,2 @@
+-- Words stored one after the other. Assumes nothing.
+mod Storing

@@ -1,0 +1,4 @@
+-- The laws of octets as words. Assumes nothing.
+pub mod Spelling
+pub mod Conversion
+pub mod Taking
