@@ -15,13 +15,13 @@ use lib.ListN.{length, getD, set, length-set, List·getD-append}
 use lib.Pow.{pow-add, pow-lt, shl-shr}
 use lib.Seq.{set-append-left}
 use Rattle.octets.proofs.Parts.{replicate-at}
-use Rattle.filter_rules.specs.Filter.{freshFilter, addPosition, addAll, containsAll, union}
+use Rattle.filter_rules.specs.Filter.{freshFilter, addPositionIn, addPosition, addAllIn, addAll, containsAllIn, union}
 use Rattle.filter_rules.proofs.Adding.{length-fresh}
 use Rattle.filter_rules.proofs.Uniting.{cons-same, union-zeros}
 use Rattle.word_rules.specs.Words.{lowOctets, octetsOf}
 use Rattle.word_rules.proofs.Conversion.{length-low, octets-octets, from-words}
 use Rattle.word_rules.proofs.Taking.{taken-words, served-words}
-use Rattle.filter_words.specs.Words.{freshWords, addPositionIn, addAllIn, containsAllIn, onesOf}
+use Rattle.filter_words.specs.Words.{freshWords, onesOf}
 use Rattle.filter_words.specs.Laws.{AddingInWords, UnionInWords, WeightInWords, TakingInWords, ServingInWords, VerdictInWords, FreshInWords}
 use Rattle.filter_words.proofs.Words.{isSet-in, words-octets}
 use Rattle.filter_words.proofs.Counting.{weight-words}
@@ -73,7 +73,7 @@ added (w ∷ ws) (suc i) k b h l =
     ∙ sym (or-right (lowOctets 8 w) (octetsOf ws) (k + 8 * i) (2 ^ b))
     ∙ ap (λ (n : ℕ). orAt (lowOctets 8 w ++ octetsOf ws) n (2 ^ b)) e
 
-pub addPosition-in : (ws : List ℕ) (p : ℕ) → octetsOf (addPositionIn ws p) ≡ addPosition (octetsOf ws) p
+pub addPosition-in : (ws : List ℕ) (p : ℕ) → octetsOf (addPositionIn 64 ws p) ≡ addPosition (octetsOf ws) p
 addPosition-in ws p =
     let q : p % 64 ≡ p % 8 + 8 * (p / 8 % 8) = omega arith in
     let r : p / 8 % 8 + 8 * (p / 64) ≡ p / 8 = omega arith in
@@ -81,19 +81,19 @@ addPosition-in ws p =
     ∙ ap (λ (i : ℕ). orAt (octetsOf ws) i (2 ^ (p % 8))) r
 
 pub adding-in-words : AddingInWords
-unfolding addAllIn addAll
+unfolding addAllIn
 adding-in-words ws [] = refl
-adding-in-words ws (p ∷ ps) = adding-in-words (addPositionIn ws p) ps ∙ ap (λ (f : List ℕ). addAll f ps) (addPosition-in ws p)
+adding-in-words ws (p ∷ ps) = adding-in-words (addPositionIn 64 ws p) ps ∙ ap (λ (f : List ℕ). addAll f ps) (addPosition-in ws p)
 
-pub length-addAllIn : (ws ps : List ℕ) → length (addAllIn ws ps) ≡ length ws
+pub length-addAllIn : (ws ps : List ℕ) → length (addAllIn 64 ws ps) ≡ length ws
 unfolding addAllIn
 length-addAllIn ws [] = refl
-length-addAllIn ws (p ∷ ps) = length-addAllIn (addPositionIn ws p) ps ∙ length-set ws (p / 64) _
+length-addAllIn ws (p ∷ ps) = length-addAllIn (addPositionIn 64 ws p) ps ∙ length-set ws (p / 64) _
 
 -- ---- testing
 
 pub verdict-in-words : VerdictInWords
-unfolding containsAllIn containsAll
+unfolding containsAllIn
 verdict-in-words ws [] = refl
 verdict-in-words ws (p ∷ ps) = ap₂ (λ (a b : Bool). a && b) (sym (isSet-in ws p)) (verdict-in-words ws ps)
 

@@ -14,11 +14,11 @@ use lib.Dec.{eqb}
 use lib.ListN.{length, getD}
 use lib.Pow.{shr-shr, mod-mod-pow, field}
 use lib.Seq.{take-all}
-use Rattle.filter_rules.specs.Filter.{isSet}
+use Rattle.filter_rules.specs.Filter.{isSetIn, isSet}
 use Rattle.filter_rules.proofs.Adding.{digit}
 use Rattle.word_rules.specs.Words.{wordAt, wordsFrom, octetsOf}
 use Rattle.word_rules.proofs.Conversion.{octet-at, length-words, words-lt, word-at, octet-kept, octets-back, words-back}
-use Rattle.filter_words.specs.Words.{wordsOf, isSetIn}
+use Rattle.filter_words.specs.Words.{wordsOf}
 use Rattle.filter_words.specs.Claim.{SixtyFourWords, WordBound, EightOctets, PositionInWord}
 use Rattle.filter_words.specs.Laws.{FilterOctetsBack, FilterWordsBack}
 
@@ -29,7 +29,7 @@ digit-octet x k h =
     ap (λ (m : ℕ). digit (x % 2 ^ m) k) (sym e) ∙ ap (λ (y : ℕ). y % 2) (field x (7 - k + 1) k) ∙ mod-mod-pow (x / 2 ^ k) (7 - k) 1
 
 -- a position is set in words where it is set in their octets
-pub isSet-in : (ws : List ℕ) (p : ℕ) → isSet (octetsOf ws) p ≡ isSetIn ws p
+pub isSet-in : (ws : List ℕ) (p : ℕ) → isSet (octetsOf ws) p ≡ isSetIn 64 ws p
 isSet-in ws p =
     let w = getD ws (p / 64) 0 in
     let q : p / 8 / 8 ≡ p / 64 = omega arith in

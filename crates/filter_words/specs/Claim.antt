@@ -5,9 +5,9 @@ use Prim.Native.Nat.{ℕ, _*_, _<_}
 use lib.Count.{ones}
 use lib.ListN.{length, getD}
 use Rattle.octets.specs.Number.{Octets}
-use Rattle.filter_rules.specs.Filter.{isSet, weight}
+use Rattle.filter_rules.specs.Filter.{isSetIn, isSet, weight}
 use Rattle.word_rules.specs.Words.{Words, lowFirst}
-use Rattle.filter_words.specs.Words.{wordsOf, isSetIn, onesOf}
+use Rattle.filter_words.specs.Words.{wordsOf, onesOf}
 
 -- there are 64 of them
 abbrev pub SixtyFourWords : Type 0
@@ -23,7 +23,7 @@ EightOctets = (f : List ℕ) (i : ℕ) → i < 64 → getD (wordsOf f) i 0 ≡ l
 
 -- position p is bit p mod 64 of word p div 64
 abbrev pub PositionInWord : Type 0
-PositionInWord = (f : List ℕ) → Octets f → (p : ℕ) → p < 4096 → isSet f p ≡ isSetIn (wordsOf f) p
+PositionInWord = (f : List ℕ) → Octets f → (p : ℕ) → p < 4096 → isSet f p ≡ isSetIn 64 (wordsOf f) p
 
 -- B-6: the positions that are set are as many as the ones of the number that the filter's octets spell
 abbrev pub BitsSet : Type 0

@@ -1,5 +1,6 @@
 -- W210-6 and W210-7: what is done to words is what is done to the octets, through the one conversion, and the conversion loses nothing
--- either way. `wordsOf f` are the words of a filter f, `octetsOf ws` the octets of words ws; union is one definition for both.
+-- either way. `wordsOf f` are the words of a filter f, `octetsOf ws` the octets of words ws. Adding and the test
+-- are one definition over the width of an element, union is one for both.
 use mathlib.Core.Path.{_≡_}
 use mathlib.Core.List.{List}
 use Prim.Native.Nat.{ℕ, _*_}
@@ -7,12 +8,12 @@ use lib.ListN.{length}
 use Rattle.octets.specs.Number.{Octets}
 use Rattle.octets.specs.Part.{copyAt}
 use Rattle.word_rules.specs.Words.{Words, octetsOf, takeWords, copyByWords}
-use Rattle.filter_rules.specs.Filter.{freshFilter, addAll, containsAll, union, weight}
-use Rattle.filter_words.specs.Words.{wordsOf, freshWords, addAllIn, containsAllIn, onesOf}
+use Rattle.filter_rules.specs.Filter.{freshFilter, addAllIn, addAll, containsAllIn, containsAll, union, weight}
+use Rattle.filter_words.specs.Words.{wordsOf, freshWords, onesOf}
 
 -- W210-6: adding
 abbrev pub AddingInWords : Type 0
-AddingInWords = (ws ps : List ℕ) → octetsOf (addAllIn ws ps) ≡ addAll (octetsOf ws) ps
+AddingInWords = (ws ps : List ℕ) → octetsOf (addAllIn 64 ws ps) ≡ addAll (octetsOf ws) ps
 
 -- union
 abbrev pub UnionInWords : Type 0
@@ -33,11 +34,7 @@ ServingInWords = (out f : List ℕ) → Octets f → (to from n : ℕ) → copyB
 
 -- the verdict's test
 abbrev pub VerdictInWords : Type 0
-VerdictInWords = (ws ps : List ℕ) → containsAllIn ws ps ≡ containsAll (octetsOf ws) ps
-
--- the filter that publishing begins with
-abbrev pub FreshInWords : Type 0
-FreshInWords = octetsOf freshWords ≡ freshFilter
+VerdictInWords = (ws ps : List ℕ) → containsAllIn 64 ws ps ≡ containsAll (octetsOf ws) ps
 
 -- W210-7: from octets to words and back
 abbrev pub FilterOctetsBack : Type 0
@@ -46,3 +43,7 @@ FilterOctetsBack = (f : List ℕ) → Octets f → length f ≡ 512 → octetsOf
 -- from words to octets and back
 abbrev pub FilterWordsBack : Type 0
 FilterWordsBack = (ws : List ℕ) → Words ws → length ws ≡ 64 → wordsOf (octetsOf ws) ≡ ws
+
+-- G-8: besides, the filter that publishing begins with
+abbrev pub FreshInWords : Type 0
+FreshInWords = octetsOf freshWords ≡ freshFilter

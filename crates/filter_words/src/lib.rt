@@ -2,8 +2,8 @@
 // position past the end of a slice is not set, and adding it changes nothing.
 ghost use mathlib.Core.Path.{_≡_};
 ghost use Prim.Native.Nat.{_/_, _%_};
-ghost use Rattle.filter_rules.specs.Filter.{union};
-ghost use Rattle.filter_words.specs.Words.{freshWords, addAllIn, containsAllIn};
+ghost use Rattle.filter_rules.specs.Filter.{addAllIn, containsAllIn, union};
+ghost use Rattle.filter_words.specs.Words.{freshWords};
 
 // B-1.
 pub fn fresh() -> [u64; 64]
@@ -14,7 +14,7 @@ pub fn fresh() -> [u64; 64]
 
 // B-4: sets each of the positions.
 pub fn add(words: &mut [u64], positions: [u16; 10])
-    ensures { λ _. ⌜ now (words .exit) ≡ addAllIn (now (words .entry)) positions ⌝ }
+    ensures { λ _. ⌜ now (words .exit) ≡ addAllIn 64 (now (words .entry)) positions ⌝ }
 {
     let mut i = 0;
     while i < 10 {
@@ -29,7 +29,7 @@ pub fn add(words: &mut [u64], positions: [u16; 10])
 
 // B-7: whether all of the positions are set.
 pub fn contains(words: &[u64], positions: [u16; 10]) -> bool
-    ensures { λ r. ⌜ r ≡ containsAllIn (now (words .entry)) positions ⌝ }
+    ensures { λ r. ⌜ r ≡ containsAllIn 64 (now (words .entry)) positions ⌝ }
 {
     let mut k = 0;
     while k < 10 {

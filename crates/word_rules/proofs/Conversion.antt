@@ -82,7 +82,7 @@ words-lt f o i (suc n) (suc k) = words-lt f o (suc i) n k
 pub words-at : (f : List ℕ) (i n k : ℕ) → k < n → getD (wordsFrom f i n) k 0 ≡ lowFirst f (8 * (i + k)) 8
 unfolding wordsFrom
 words-at f i zero k h = absurd (omega arith)
-words-at f i (suc n) zero h = rw (add-zero i)
+words-at f i (suc n) zero h = ap (λ (j : ℕ). lowFirst f (8 * j) 8) (sym (add-zero i))
 words-at f i (suc n) (suc k) h =
     let e : suc i + k ≡ i + suc k = omega arith in
     words-at f (suc i) n k (omega arith) ∙ ap (λ (j : ℕ). lowFirst f (8 * j) 8) e

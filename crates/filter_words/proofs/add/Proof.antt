@@ -8,9 +8,8 @@ use lib.ListN.{length, getD, drop, length-set}
 use lib.Seq.{set-out}
 use mir.Syntax.{w64}
 use mir.Val.{Fits}
-use Rattle.filter_rules.proofs.Turns.{add-shifted}
-use Rattle.filter_words.specs.Words.{addPositionIn, addAllIn}
-use Rattle.filter_words.proofs.Steps.{add-step, add-end}
+use Rattle.filter_rules.specs.Filter.{addPositionIn, addAllIn}
+use Rattle.filter_rules.proofs.Turns.{add-shifted, add-step, add-end}
 use borrow.Author.Needs.{needs}
 use Rattle.filter_words.proofs.add.Statement.{statement}
 use Rattle.filter_words.proofs.add.Tie as tie
@@ -18,7 +17,7 @@ use Rattle.filter_words.proofs.add.Tie as tie
 abbrev Inv-loop : tie.InvT-loop
 Inv-loop words₀ positions i₀ words i =
     (i ≤ 10) × (length positions ≡ 10) × (length words ≡ length words₀)
-    × (addAllIn words (drop i positions) ≡ addAllIn words₀ positions)
+    × (addAllIn 64 words (drop i positions) ≡ addAllIn 64 words₀ positions)
 
 abbrev μ-loop : tie.MeasureT-loop
 μ-loop words₀ positions i₀ words i = 10 - i
@@ -64,7 +63,7 @@ loop-less c = search needs
 
 -- one turn adds one position
 turn : (c : tie.Joined1 Inv-loop μ-loop)
-    → c .if1 .words ≡ addPositionIn (c .before .before .loop .words) (getD (c .before .before .before .args .t2) (c .before .before .loop .i) 0)
+    → c .if1 .words ≡ addPositionIn 64 (c .before .before .loop .words) (getD (c .before .before .before .args .t2) (c .before .before .loop .i) 0)
 turn c =
     let s = c .before .before in
     let p = getD (s .before .args .t2) (s .loop .i) 0 in
@@ -80,7 +79,7 @@ loop-again c =
       search needs,
       search needs,
       ap length (turn c) ∙ simp length-set (s .loop .inv .2),
-      ap (λ (ws : List ℕ). addAllIn ws (drop (s .loop .i + 1) ps)) (turn c) ∙ sym (add-step (s .loop .words) ps (s .loop .i) (omega arith))
+      ap (λ (ws : List ℕ). addAllIn 64 ws (drop (s .loop .i + 1) ps)) (turn c) ∙ sym (add-step 64 (s .loop .words) ps (s .loop .i) (omega arith))
           ∙ s .loop .inv .3,
     )
 
@@ -89,7 +88,7 @@ same-length c = search needs
 
 returns : tie.Need-returns Inv-loop μ-loop
 returns c =
-    let s = c .before in sym (add-end (s .loop .words) (s .before .args .t2) (s .loop .i) (omega arith)) ∙ s .loop .inv .3
+    let s = c .before in sym (add-end 64 (s .loop .words) (s .before .args .t2) (s .loop .i) (omega arith)) ∙ s .loop .inv .3
 
 pub add-spec : {M : Type 1} → statement M
 add-spec =

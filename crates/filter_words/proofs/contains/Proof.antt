@@ -7,14 +7,14 @@ use native.Mathlib.Omega.{arith}
 use lib.ListN.{length, getD, drop}
 use mir.Syntax.{w64}
 use mir.Val.{Fits}
-use Rattle.filter_words.specs.Words.{isSetIn, containsAllIn}
-use Rattle.filter_words.proofs.Steps.{bit-past, bit-zero, bit-one, contains-step, contains-end}
+use Rattle.filter_rules.specs.Filter.{isSetIn, containsAllIn}
+use Rattle.filter_rules.proofs.Turns.{bit-past, bit-zero, bit-one, contains-step, contains-end}
 use borrow.Author.Needs.{needs}
 use Rattle.filter_words.proofs.contains.Statement.{statement}
 use Rattle.filter_words.proofs.contains.Tie as tie
 
 abbrev Inv-loop : tie.InvT-loop
-Inv-loop words positions k₀ k = (k ≤ 10) × (length positions ≡ 10) × (containsAllIn words (drop k positions) ≡ containsAllIn words positions)
+Inv-loop words positions k₀ k = (k ≤ 10) × (length positions ≡ 10) × (containsAllIn 64 words (drop k positions) ≡ containsAllIn 64 words positions)
 
 abbrev μ-loop : tie.MeasureT-loop
 μ-loop words positions k₀ k = 10 - k
@@ -38,10 +38,10 @@ abbrev p : tie.In-loop Inv-loop μ-loop → ℕ
 p c = getD (c .before .before .args .t2) (c .before .loop .k) 0
 
 -- the test of position k, and what is left to test
-turn : (c : tie.In-loop Inv-loop μ-loop) (b : Bool) → isSetIn (f c) (p c) ≡ b
-    → b && containsAllIn (f c) (drop (c .before .loop .k + 1) (c .before .before .args .t2)) ≡ containsAllIn (f c) (c .before .before .args .t2)
+turn : (c : tie.In-loop Inv-loop μ-loop) (b : Bool) → isSetIn 64 (f c) (p c) ≡ b
+    → b && containsAllIn 64 (f c) (drop (c .before .loop .k + 1) (c .before .before .args .t2)) ≡ containsAllIn 64 (f c) (c .before .before .args .t2)
 turn c b e =
-    let s = c .before in sym (contains-step (f c) (s .before .args .t2) (s .loop .k) b (omega arith) e) ∙ s .loop .inv .2
+    let s = c .before in sym (contains-step 64 (f c) (s .before .args .t2) (s .loop .k) b (omega arith) e) ∙ s .loop .inv .2
 
 returns : tie.Need-returns Inv-loop μ-loop
 returns c = let d = c .before in turn d false (bit-past (f d) (p d / 64) (p d % 64) (c .if1 .taken))
@@ -76,7 +76,7 @@ loop-again c =
 
 returns-3 : tie.Need-returns-3 Inv-loop μ-loop
 returns-3 c =
-    let s = c .before in sym (contains-end (s .before .args .words .now) (s .before .args .t2) (s .loop .k) (omega arith)) ∙ s .loop .inv .2
+    let s = c .before in sym (contains-end 64 (s .before .args .words .now) (s .before .args .t2) (s .loop .k) (omega arith)) ∙ s .loop .inv .2
 
 pub contains-spec : {M : Type 1} → statement M
 contains-spec =
