@@ -1,6 +1,6 @@
 -- W210-6 and W210-7: what is done to words is what is done to the octets, through the one conversion, and the conversion loses nothing
--- either way. `wordsOf f` are the words of a filter f, `octetsOf ws` the octets of words ws. Adding and the test
--- are one definition over the width of an element, union is one for both.
+-- either way. `wordsOf f` are the words of a filter f, `octetsOf ws` the octets of words ws. Adding and the test are one definition
+-- over the width of an element; union is one for both.
 use mathlib.Core.Path.{_≡_}
 use mathlib.Core.List.{List}
 use Prim.Native.Nat.{ℕ, _*_}
