@@ -11,6 +11,7 @@
 #include "ntp5.h"
 
 enum {
+    INTERLEAVED = 0x2,                 /* the header's flag */
     SOURCE = 0,                        /* the association for the other controller; a real client has up to sixteen */
     CHUNK = 128,                       /* filter octets in each answer */
     PASS = NTP5_FILTER_OCTETS / CHUNK, /* polls in which every chunk of the other's filter comes once */

@@ -2,8 +2,9 @@
  * A main loop on libntp5.a with two simulated controllers, left and right, that poll each other. There are no sockets: a
  * datagram goes from one buffer to the other, and the clocks are numbers. udp.c is the same over sockets.
  *
- * First each controller follows nobody, so that both verdicts are clear. Then each takes the other as its source and
- * publishes the filter that says so. Once the new filter has gone round, each finds its own ID in the other's filter: a loop.
+ * First each controller follows nobody, so that both verdicts are clear. For a while answers are lost, and interleaved mode
+ * comes back by itself. Then each takes the other as its source and publishes the filter that says so. Once the new filter has
+ * gone round, each finds its own ID in the other's filter: a loop.
  *
  * Prints what happens, and ends with 1 at the first thing that is not as expected.
  */
@@ -11,6 +12,7 @@
 
 /* A millisecond of a timestamp, which has 32 fraction bits. */
 #define MS UINT64_C(4294967)
+#define INTERVAL (64000 * MS) /* from poll to poll, 2^6 s */
 
 typedef struct {
     controller own;
@@ -54,26 +56,55 @@ static size_t serve(simulated *server, const uint8_t *request, size_t request_le
     return w.length;
 }
 
-/* The client's part: a request goes out, 1 ms later the server has it, and 1 ms after its answer left that is here. */
-static ntp5_received ask(simulated *client, simulated *server)
+/* The client's part: a request goes out, and 1 ms later the server has it. */
+static size_t send_request(simulated *client, uint8_t *request, size_t room)
 {
-    uint8_t request[NTP5_DATAGRAM_AT_MOST];
-    uint8_t response[NTP5_DATAGRAM_AT_MOST];
     uint64_t *table = client->own.table;
     size_t size = ntp5_table_words();
-    ntp5_written w = ntp5_poll(table, size, SOURCE, new_cookie(client), 6, true, request, sizeof request);
+    ntp5_written w = ntp5_poll(table, size, SOURCE, new_cookie(client), 6, true, request, room);
     ACCEPTED(w.refusal);
     EXPECT(w.length == 84 + CHUNK);
     ACCEPTED(ntp5_sent(table, size, SOURCE, clock_of(client)));
     now += MS;
-    size_t n = serve(server, request, w.length, response, sizeof response);
-    EXPECT(n == w.length);
+    return w.length;
+}
+
+/* The client's part: the server's answer is here 1 ms after it left. */
+static ntp5_received take_answer(simulated *client, const uint8_t *response, size_t response_len)
+{
+    uint64_t *table = client->own.table;
+    size_t size = ntp5_table_words();
     now += MS;
-    ntp5_received r = ntp5_receive(table, size, SOURCE, response, n, clock_of(client));
+    ntp5_received r = ntp5_receive(table, size, SOURCE, response, response_len, clock_of(client));
     ACCEPTED(r.refusal);
+    EXPECT(r.judgement == NTP5_USABLE && r.chunk == NTP5_CHUNK_TAKEN);
     /* The network may deliver a datagram twice. The request is used up, so that the second copy is refused. */
-    EXPECT(ntp5_receive(table, size, SOURCE, response, n, clock_of(client)).refusal == NTP5_NOT_ASKED);
+    EXPECT(ntp5_receive(table, size, SOURCE, response, response_len, clock_of(client)).refusal == NTP5_NOT_ASKED);
     return r;
+}
+
+/* One exchange. */
+static ntp5_received ask(simulated *client, simulated *server)
+{
+    uint8_t request[NTP5_DATAGRAM_AT_MOST];
+    uint8_t response[NTP5_DATAGRAM_AT_MOST];
+    size_t n = send_request(client, request, sizeof request);
+    EXPECT(serve(server, request, n, response, sizeof response) == n);
+    return take_answer(client, response, n);
+}
+
+/* Out and back take 1 ms each, and an interleaved measurement is exact. */
+static bool exact(const simulated *client, const simulated *server, ntp5_received r)
+{
+    return r.offset == (int64_t)(server->ahead - client->ahead) && r.delay == 2 * MS;
+}
+
+/* What an answer says; and whoever this controller serves has to see its chunk. */
+static void note(simulated *client, const simulated *server, ntp5_received r)
+{
+    printf("%s is ahead by %.3f ms, delay %.3f ms\n", server->own.name, (double)r.offset / (double)MS,
+           (double)r.delay / (double)MS);
+    chunk_taken(&client->own);
 }
 
 /*
@@ -84,18 +115,53 @@ static void ask_for_filter(simulated *client, simulated *server, uint8_t before,
 {
     for (int i = 1; i <= PASS; i++) {
         ntp5_received r = ask(client, server);
-        EXPECT(r.judgement == NTP5_USABLE && r.chunk == NTP5_CHUNK_TAKEN);
-        printf("%s: poll %d of %d: %s is ahead by %.3f ms, delay %.3f ms\n", client->own.name, i, PASS, server->own.name,
-               (double)r.offset / (double)MS, (double)r.delay / (double)MS);
-        /* Out and back take 1 ms each. From the second answer on the measurement is interleaved and exact. */
-        if (i > 1) {
-            EXPECT(r.offset == (int64_t)(server->ahead - client->ahead));
-            EXPECT(r.delay == 2 * MS);
-        }
-        chunk_taken(&client->own);
+        EXPECT(i == 1 || exact(client, server, r)); /* from the second answer on they are interleaved */
+        printf("%s: poll %d of %d: ", client->own.name, i, PASS);
+        note(client, server, r);
         EXPECT(look_for_loop(&client->own) == (i < PASS ? before : after));
-        now += 64000 * MS; /* the next poll, 2^6 s later */
+        now += INTERVAL;
     }
+}
+
+/* The server cookie of a request, which wants interleaved mode as each one here does. */
+static uint64_t server_cookie(const uint8_t *request, size_t request_len)
+{
+    ntp5_read r = ntp5_header_read(request, request_len, NTP5_REQUEST);
+    ACCEPTED(r.refusal);
+    EXPECT((r.header.flags & INTERLEAVED) != 0);
+    return r.header.server_cookie;
+}
+
+/*
+ * Answers are lost. A poll counts the request that it replaces as missed, and with four missed polls it no longer sends the
+ * server cookie that the client has, which the server may have forgotten, but 0. The answer to that is basic and brings a new
+ * one, and the exchange after it is interleaved again. The caller polls on and has nothing to do for it.
+ */
+static void lose_answers(simulated *client, simulated *server)
+{
+    uint8_t request[NTP5_DATAGRAM_AT_MOST];
+    uint8_t response[NTP5_DATAGRAM_AT_MOST];
+    size_t n;
+    for (int i = 1; i <= 4; i++) {
+        n = send_request(client, request, sizeof request);
+        EXPECT(server_cookie(request, n) != 0);
+        EXPECT(serve(server, request, n, response, sizeof response) == n);
+        printf("%s: the answer to poll %d is lost\n", client->own.name, i);
+        now += INTERVAL;
+    }
+    n = send_request(client, request, sizeof request);
+    EXPECT(server_cookie(request, n) == 0);
+    EXPECT(serve(server, request, n, response, sizeof response) == n);
+    ntp5_received r = take_answer(client, response, n);
+    EXPECT(!exact(client, server, r));
+    printf("%s: poll 5, with server cookie 0: ", client->own.name);
+    note(client, server, r);
+    now += INTERVAL;
+    r = ask(client, server);
+    EXPECT(exact(client, server, r));
+    printf("%s: poll 6, interleaved again: ", client->own.name);
+    note(client, server, r);
+    now += INTERVAL;
 }
 
 static simulated left = {.own.name = "left",
@@ -109,17 +175,22 @@ static simulated right = {.own.name = "right",
                           .ahead = 5 * MS,
                           .cookie = 2};
 
-int main(void)
+/* Before the whole filter has come nothing is known, and an incomplete filter is never published. */
+static void ask_for_first_filters(void)
 {
-    start(&left.own);
-    start(&right.own);
-
-    /* Before the whole filter has come nothing is known, and an incomplete filter is never published. */
     EXPECT(look_for_loop(&left.own) == NTP5_VERDICT_INCOMPLETE);
     EXPECT(ntp5_publish(left.own.table, ntp5_table_words(), 1u << SOURCE, left.own.id, sizeof left.own.id, left.own.filter,
                         sizeof left.own.filter).refusal == NTP5_BAD_STATE);
     ask_for_filter(&left, &right, NTP5_VERDICT_INCOMPLETE, NTP5_VERDICT_CLEAR);
     ask_for_filter(&right, &left, NTP5_VERDICT_INCOMPLETE, NTP5_VERDICT_CLEAR);
+}
+
+int main(void)
+{
+    start(&left.own);
+    start(&right.own);
+    ask_for_first_filters();
+    lose_answers(&left, &right);
 
     /* Each believes that the other is a good source. */
     follow(&left.own, 1u << SOURCE);

@@ -17,7 +17,6 @@
 
 enum {
     EXCHANGES = 5,        /* interleaved ones, in each direction, at least */
-    INTERLEAVED = 0x2,    /* the header's flag */
     ANSWER_WITHIN = 1000, /* ms; after that a datagram counts as lost */
     END_WITHIN = 20000    /* ms, for all */
 };

@@ -45,9 +45,9 @@
  * README lists what changed.
  */
 #define NTP5_VERSION_MAJOR 3
-#define NTP5_VERSION_MINOR 0
+#define NTP5_VERSION_MINOR 1
 #define NTP5_VERSION_PATCH 0
-#define NTP5_VERSION "3.0.0"
+#define NTP5_VERSION "3.1.0"
 
 #ifdef __cplusplus
 extern "C" {
@@ -172,7 +172,7 @@ typedef struct {
  * are out of range, which can come about only if something else wrote there; clearing checks the size alone.
  */
 
-/* The size of a table in 64-bit numbers, as `table_len` counts them: the same at every call; in this version 1280, 10240 octets. */
+/* The size of a table in 64-bit numbers, as `table_len` counts them: the same at every call; in this version 1296, 10368 octets. */
 size_t ntp5_table_words(void);
 
 /* Closes all sixteen associations. Refuses: 6. */
@@ -191,6 +191,10 @@ uint8_t ntp5_close(uint64_t *table, size_t table_len, uint8_t association);
  * Writes the next request to `out`: 84 octets and the chunk size. It becomes the outstanding request, and an older one is
  * dropped: its answer will be refused with 9. `client_cookie` is one never used before, `poll` the poll exponent that is
  * sent, `interleaved` whether an interleaved answer is wanted.
+ * A poll that replaces a request without an answer counts it as missed; an accepted response and opening set the count back.
+ * With four or more missed, server cookie 0 is sent though an interleaved answer is wanted: the server answers in basic mode
+ * with a fresh cookie, and the poll after that answer asks for an interleaved one again. The count, at most 8, is in no
+ * answer: it shows in the server cookie of the request, octets 16 to 23.
  * Refuses: 6, 7 if not open, 8 for cookie 0 or that of the last request, 11.
  */
 ntp5_written ntp5_poll(uint64_t *table, size_t table_len, uint8_t association, uint64_t client_cookie, int8_t poll,

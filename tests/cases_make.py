@@ -5,8 +5,8 @@ usage: cases_make.py > crates/cases/stdin
        cases_model.py < crates/cases/stdin > crates/cases/stdout
 
 First the cases that a person chose, by subject, then random ones from a fixed seed, then the client table's and the
-responder's, which are in client_make.py, half_era_make.py, responder_make.py and mac_make.py. Running it again gives the
-same file.
+responder's, which are in client_make.py, half_era_make.py, responder_make.py, mac_make.py and missed_make.py. Running it
+again gives the same file.
 """
 import random
 import sys
@@ -16,6 +16,7 @@ from cases_model import text_of     # noqa: E402
 from client_make import client_lines    # noqa: E402
 from half_era_make import half_era_lines    # noqa: E402
 from mac_make import mac_lines  # noqa: E402
+from missed_make import missed_lines    # noqa: E402
 from responder_make import responder_lines     # noqa: E402
 
 R = random.Random(5)
@@ -399,6 +400,7 @@ def main():
     print("\n".join(half_era_lines()))
     print("\n".join(responder_lines(R)))
     print("\n".join(mac_lines()))
+    print("\n".join(missed_lines()))
     print("\n# A line one octet too long, and a last line with no line end")
     print("x" * 65537)
     print("sound 3 2b00*47", end="")

@@ -1,4 +1,4 @@
-"""The client table, C-1 to C-33: its plain table, with the calls that change or read it.
+"""The client table, C-1 to C-33 and W211-1 to W211-5: its plain table, with the calls that change or read it.
 
 Sixteen places, each closed (None) or open. A call answers its refusal number, 0 for success, and after it what
 else the rules have it answer; a refused call answers zeros, leaves its output buffer as lent and changes nothing (N-27, N-28).
@@ -9,6 +9,8 @@ from page_model import (DRAFT, DRAFT_NAME, FILTER_REQUEST, FILTER_RESPONSE, INTE
                         measure, positions, read_header, sound, union, write_header)
 
 CHUNK_SIZES = (16, 32, 64, 128, 256, 512)
+MISSED_AT_MOST = 8      # missed polls are counted no higher
+MISSED_TOO_MANY = 4     # with so many or more a poll sends server cookie 0
 
 TAKEN, ABSENT, ANOTHER_SIZE = 1, 2, 3       # what became of a chunk
 INCOMPLETE, LOOP, CLEAR = 1, 2, 3           # loop verdicts
@@ -44,9 +46,21 @@ class Place:
     last_cookie: int | None = None
     outstanding: Request | None = None
     saved: Exchange | None = None
+    missed: int = 0         # how many of the latest polls were replaced unanswered
 
     def complete(self):
         return all(self.taken)
+
+    def count_missed(self):
+        """What a poll does first: it counts the request that it replaces."""
+        if self.outstanding is not None:
+            self.missed = min(MISSED_AT_MOST, self.missed + 1)
+
+    def sent_cookie(self, interleaved):
+        """The server cookie that a poll then sends."""
+        if not interleaved or self.saved is None or self.missed >= MISSED_TOO_MANY:
+            return 0
+        return self.saved.server_cookie
 
     def take(self, start, datagram):
         """What becomes of the first filter response's octets."""
@@ -122,7 +136,8 @@ class Table:
         length = 84 + place.chunk_size
         if len(output) < length:
             return 11, 0, output
-        server_cookie = place.saved.server_cookie if interleaved and place.saved else 0
+        place.count_missed()
+        server_cookie = place.sent_cookie(interleaved)
         values = {"leap": 0, "mode": 3, "stratum": 0, "poll": exponent, "precision": 0, "timescale": place.timescale,
                   "era": 0, "flags": INTERLEAVED if interleaved else 0, "root_delay": 0, "root_dispersion": 0,
                   "server_cookie": server_cookie, "client_cookie": cookie, "receive": 0, "transmit": 0}
@@ -163,7 +178,7 @@ class Table:
             timescales = this.timescale,
             times = this.t1, this.t2, this.t3, this.t4
         judgement = judge(response, timescales, place.timescale, times)
-        place.outstanding, place.saved = None, this
+        place.outstanding, place.saved, place.missed = None, this, 0
         chunk = place.take(request.offset, datagram)
         if judgement:
             return 0, judgement, chunk, 0, 0

@@ -58,6 +58,10 @@ class Story:
         return self.store.answer(request, receive, estimate, fresh, *server, filter_octets, INFORMATION,
                                  bytes(len(request)))[2]
 
+    def clock_answer(self, request, start, fresh, filter_octets):
+        """The clock's answer to a request that went at `start`: it is a second ahead of us."""
+        return self.answer(request, start + SECOND, start + SECOND + 16, fresh, filter_octets)
+
     def report(self, cookie, time):
         print(f"report {cookie:#x} {time:#x}")
         self.store.report(cookie, time)
@@ -95,7 +99,7 @@ def first_exchange(story, start, good):
                "answer: the request, when it came, when the answer is thought to leave (16 units later), a fresh cookie, "
                "nine values of the clock, its filter, its server information (00100000 is version 5 alone), the room for "
                "the answer.")
-    octets = story.answer(request, start + SECOND, start + SECOND + 16, 0x51, good)
+    octets = story.clock_answer(request, start, 0x51, good)
     story.note("It left 64 units later than thought. The clock reports that, and the store holds cookie and time.",
                "report: the cookie, the time.")
     story.report(0x51, start + SECOND + 80)
@@ -108,7 +112,7 @@ def first_exchange(story, start, good):
 def interleaved_exchange(story, start, good):
     story.note("An interleaved exchange. We repeat the clock's cookie, so that it tells when its last answer left.")
     request = story.poll(0, 0xC2, "interleaved", start)
-    octets = story.answer(request, start + SECOND, start + SECOND + 16, 0x52, good)
+    octets = story.clock_answer(request, start, 0x52, good)
     story.note("The measurement is of the exchange before, with the true send time: the delay is smaller, the offset nearer "
                "to a second. Both chunks of the clock's filter are there now.")
     story.receive(0, start + 96, octets)
@@ -116,11 +120,40 @@ def interleaved_exchange(story, start, good):
     story.receive(0, start + 200, octets)
 
 
+def lost_answers(story, start, good):
+    story.note("Four answers of the clock are lost. Each poll but the first replaces a request that was not answered and counts "
+               "it as missed. All four repeat the clock's last cookie, 0x52.")
+    for turn in range(4):
+        sent = start + 16 * turn * SECOND
+        request = story.poll(0, 0xC3 + turn, "interleaved", sent)
+        story.clock_answer(request, sent, 0x53 + turn, good)
+    story.note("The fourth request, field by field: three are missed, and server cookie 0x52 is still sent. The clock has forgotten "
+               "it: its store was full, and the oldest cookie left.",
+               "header: the mode that the datagram is to have (3 is a client's), the datagram.")
+    print(f"header 3 {text_of(request)}")
+
+
+def fallen_back(story, start, good):
+    story.note("The fifth poll counts the fourth missed one. It asks for interleaved mode as before (flag 0x2), but sends server "
+               "cookie 0, as if the clock had given none.")
+    request = story.poll(0, 0xC7, "interleaved", start)
+    print(f"header 3 {text_of(request)}")
+    story.note("The clock gives a basic answer with a fresh cookie, and reports when it left. We receive it: measured as the very "
+               "first one was, and the number of missed polls is back to 0.")
+    octets = story.clock_answer(request, start, 0x57, good)
+    story.report(0x57, start + SECOND + 80)
+    story.receive(0, start + 96, octets)
+    story.note("With that cookie the next exchange is interleaved again.")
+    start += 16 * SECOND
+    request = story.poll(0, 0xC8, "interleaved", start)
+    story.receive(0, start + 96, story.clock_answer(request, start, 0x58, good))
+
+
 def mixed_answers(story, start, good, looping):
     story.note("Two exchanges at once. We ask both servers, in basic mode.")
-    mine, theirs = story.poll(0, 0xC3, t1=start), story.poll(1, 0xD1, t1=start + 5)
+    mine, theirs = story.poll(0, 0xC9, t1=start), story.poll(1, 0xD1, t1=start + 5)
     story.note("Both answer.")
-    first = story.answer(mine, start + SECOND, start + SECOND + 16, 0, good)
+    first = story.clock_answer(mine, start, 0, good)
     second = story.answer(theirs, start + 40, start + 56, 0, looping)
     story.note("The neighbour's answer comes first. Each chunk goes to its own server's filter, at the offset that its own "
                "request asked.")
@@ -170,9 +203,11 @@ def main():
     opening(story)
     first_exchange(story, start, good)
     interleaved_exchange(story, start + 16 * SECOND, good)
-    mixed_answers(story, start + 32 * SECOND, good, looping)
-    verdicts(story, start + 48 * SECOND, looping)
-    half_era(story, start + 64 * SECOND, looping)
+    lost_answers(story, start + 32 * SECOND, good)
+    fallen_back(story, start + 96 * SECOND, good)
+    mixed_answers(story, start + 128 * SECOND, good, looping)
+    verdicts(story, start + 144 * SECOND, looping)
+    half_era(story, start + 160 * SECOND, looping)
     bad_input(story)
 
 

@@ -183,21 +183,27 @@ def answering(lines):
     lines.answer(request(*([bytes.fromhex("f5010004")] * 300), three[1]))
 
 
-def together(lines):
-    """Our client and our responder: basic, then interleaved, and the chunks of a filter."""
-    lines.group("Our client polls our responder, and receives its answers: basic, then interleaved from the saved time", 3)
+def exchanges(lines, turns, lost=()):
+    """Our client polls our responder, on a cleared table; the answers of the turns in `lost` do not come."""
     table = Table()
     lines.made += ["clear", "open 5 3 128"]
     table.open(5, 3, 128)
-    for turn in range(1, 6):
+    for turn in turns:
         lines.made.append(f"poll 5 {turn} 6 interleaved 00*212")
         _, length, output = table.poll(5, turn, 6, True, bytes(212))
         lines.made.append(f"sent 5 {1000 * turn}")
         table.sent(5, 1000 * turn)
         octets = lines.answer(output[:length], 1000 * turn + 50, 1000 * turn + 60, 0xA0 + turn)
         lines.report(0xA0 + turn, 1000 * turn + 61)
-        lines.made.append(f"receive 5 {1000 * turn + 110} {text_of(octets)}")
-        table.receive(5, 1000 * turn + 110, octets)
+        if turn not in lost:
+            lines.made.append(f"receive 5 {1000 * turn + 110} {text_of(octets)}")
+            table.receive(5, 1000 * turn + 110, octets)
+
+
+def together(lines):
+    """Our client and our responder: basic, then interleaved, and the chunks of a filter."""
+    lines.group("Our client polls our responder, and receives its answers: basic, then interleaved from the saved time", 3)
+    exchanges(lines, range(1, 6))
     lines.made.append(f"verdict 5 {text_of(bytes(range(15)))}")
     lines.made.append(f"verdict 5 {text_of(bytes([0xFF]) * 15)}")
 

@@ -56,7 +56,7 @@ fn finish(rows: &[u8], line: &[u8], state: Line, table: &mut [u64], kept: &mut [
 pub(crate) fn run_all(file: i32, name: &[u8], rows: &[u8]) {
     let mut text = io::large_buffer();
     let mut line = io::large_buffer();
-    let mut table = [0u64; 1280];
+    let mut table = [0u64; 1296];
     let mut kept = [0u8; 4098];
     let mut state = Line {
         number: 1,

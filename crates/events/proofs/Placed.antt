@@ -30,6 +30,7 @@ openedHead timescale c taken = record {
   outstanding = 0;
   request = noRequest;
   saved = noneSaved;
+  missed = 0;
 }
 
 -- a fresh place has the numbers of one where no octet was taken

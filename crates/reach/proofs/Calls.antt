@@ -19,7 +19,7 @@ use Rattle.chain.proofs.Contents.{NoneOf, AllOctets}
 use Rattle.poll_request.specs.Request.{pollLength}
 use Rattle.exchange.specs.Response.{withChunk, responseOf}
 use Rattle.exchange.specs.declared.response.Response.{Response}
-use Rattle.state.specs.Plain.{Outstanding, Opened, Place, closed, opened, isLast, sentCookie, exchanged, received, placeDo}
+use Rattle.state.specs.Plain.{Outstanding, Opened, Place, closed, opened, isLast, missedCounted, sentCookie, exchanged, received, placeDo}
 use Rattle.state.specs.Numbers.{HeadFits, placeHead}
 use Rattle.state.specs.declared.event.Event.{Event}
 use Rattle.state.specs.declared.event.Event.the-variants.{Poll, Sent, Receive}
@@ -56,10 +56,10 @@ call {a} {p} inside c e datagram t is w l = record {
 
 -- the request that asks the next offset, and the place that waits for its answer
 abbrev request : (k t1 : ℕ) → Bool → Opened → Outstanding
-request k t1 i o = record { client = k; server = sentCookie i (o .saved); offset = o .next; t1 = t1 }
+request k t1 i o = record { client = k; server = sentCookie i o; offset = o .next; t1 = t1 }
 
 abbrev waiting : (k t1 : ℕ) → Bool → Opened → Opened
-waiting k t1 i o = exchanged o (some k) (some (request k t1 i o)) (o .saved)
+waiting k t1 i o = exchanged o (some k) (some (request k t1 i o)) (o .saved) (missedCounted o)
 
 -- the place after a response that has the saved numbers v and the fields cs
 abbrev answered : Saved → (k : ℕ) → List Content → Opened → Opened

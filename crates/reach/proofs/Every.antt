@@ -1,21 +1,22 @@
 -- Calls lead to every head in range. Assumes nothing.
 use mathlib.Core.Path.{_≡_, refl, sym, ap, _∙_, subst⁻¹}
-use mathlib.Core.Bool.{Bool, true, false, _&&_, or-false}
+use mathlib.Core.Bool.{Bool, true, false, cond, _&&_, or-false, and-eq-true-iff}
 use mathlib.Core.List.{List, []}
 use mathlib.Core.Logic.{⊎-elim}
 use mathlib.Core.Option.{Option, none, some}
-use Prim.Native.Nat.{ℕ, _<_}
+use Prim.Native.Nat.{ℕ, zero, suc, _+_, _<_, min}
 use native.Mathlib.Omega.{arith}
 use borrow.Author.Tests.{eqb-true, eqb-false, ne-eqb, ltb-true}
-use lib.Dec.{eqb}
+use lib.Dec.{eqb, ltb, lit<}
 use lib.ListN.{replicate}
 use Rattle.chain.specs.Field.{firstOf}
 use Rattle.chain.specs.Content.{chainOctets, placed}
 use Rattle.state.specs.Range.{inRange}
-use Rattle.state.specs.Plain.{Opened, closed, opened, newlyOpened, isLast, sentCookie, placeDo}
-use Rattle.state.specs.Numbers.{HeadFits, placeHead, savedIn, openedIn}
+use Rattle.state.specs.Plain.{Outstanding, Opened, closed, opened, newlyOpened, isLast, countedBy, savedServer, exchanged, placeDo}
+use Rattle.state.specs.Numbers.{HeadFits, placeHead, cookieIn, savedIn, openedIn}
 use Rattle.state.specs.declared.head.Head.{Head}
-use Rattle.state.proofs.Ranges.{which, OpenRanges, open-ranges, asked-ranges}
+use Rattle.state.proofs.Chunks.{or-cases}
+use Rattle.state.proofs.Ranges.{OpenRanges, open-ranges, AskedRanges, asked-ranges, none-missed}
 use Rattle.state.proofs.Numbers.{head-back, heads-back, server-back}
 use Rattle.state.specs.declared.event.Event.the-variants.{Open}
 use Rattle.order.specs.Order.{after}
@@ -23,7 +24,7 @@ use Rattle.client_rules.specs.Call.{openOne}
 use Rattle.client_rules.specs.Plain.{closedTable}
 use Rattle.octets.proofs.Parts.{replicate-at}
 use Rattle.reach.specs.Reach.{EveryInRange}
-use Rattle.reach.proofs.Only.{head-after}
+use Rattle.client_rules.proofs.Demand3.{head-reached}
 use Rattle.reach.proofs.Calls.{From, call, Polls, ask, round}
 use Rattle.reach.proofs.Rounds.{choose, noneOutstanding, Leads, rounds}
 use Rattle.octets.proofs.Tests.{by-outcome, same-test}
@@ -46,13 +47,48 @@ module _ {a : ℕ} (inside : a < 16) (h : Head) (fits : HeadFits h) (r : OpenRan
   unfolding after
   there o f e = record { calls = []; typed = tt; leads = λ ps n at. ap placeHead at ∙ ap (λ (p : Opened). placeHead (opened p)) e ∙ head-back h f r }
 
-  -- that request is outstanding, and sent server cookie 0 or the saved one
-  asking : (f : List ℕ) (last : Option ℕ) → eqb (h .outstanding) 0 ≡ false → Polls (h .last .0) last → Before f last
-  asking f last e p =
-      let q = asked-ranges h (r .request) (eqb-false _ _ e) in
-      let by : (i : Bool) → sentCookie i (savedIn (h .saved)) ≡ h .request .server .0 → Before f last =
-      λ i s. ask inside h _ (h .last .0) (h .request .t1) i p (fits .t1) (there _ f (rw (e, ne-eqb (h .last .0) 0 (p .nonzero), q .offset, s))) in
-      ⊎-elim (λ s. by false (sym s)) (λ s. by true (server-back (h .saved) (r .saved) ∙ sym s)) (which _ _ _ (q .server))
+  -- the place with a request q outstanding, or none, after n missed polls
+  abbrev unanswered : List ℕ → Option ℕ → Option Outstanding → ℕ → Opened
+  unanswered f last q n = exchanged (noneOutstanding h (h .next) (h .taken) f last (savedIn (h .saved))) last q (savedIn (h .saved)) n
+
+  -- nothing is outstanding
+  none-left : (f : List ℕ) (last : Option ℕ) → eqb (h .outstanding) 0 ≡ true → cookieIn (h .last .0) ≡ last → From a (opened (unanswered f last none 0)) h
+  none-left f last t e = there _ f (rw (t, e, none-missed h (r .request) (eqb-true _ _ t)))
+
+  module _ (e : eqb (h .outstanding) 0 ≡ false) where
+    abbrev asked : AskedRanges h
+    asked = asked-ranges h (r .request) (eqb-false _ _ e)
+
+    -- the request that is outstanding, which sent server cookie 0 or the saved one
+    last-poll : (f : List ℕ) (last : Option ℕ) (q : Option Outstanding) (n : ℕ) → isLast (h .last .0) last ≡ false → countedBy q n ≡ h .missed
+        → From a (opened (unanswered f last q n)) h
+    last-poll f last q n z m =
+        let p = last-polls {last = last} (rw e) z in
+        let by : (i : Bool) → cond (i && ltb (h .missed) 4) (savedServer (savedIn (h .saved))) 0 ≡ h .request .server .0 → From a (opened (unanswered f last q n)) h =
+        λ i s. ask inside h _ (h .last .0) (h .request .t1) i p (fits .t1) (there _ f (rw (e, ne-eqb (h .last .0) 0 (p .nonzero), asked .offset, m, s))) in
+        or-cases (eqb (h .request .server .0) 0) _
+        (λ s. by false (sym (eqb-true _ _ s)))
+        (λ s. let few = and-eq-true-iff (eqb (h .request .server .0) (h .saved .server .0)) (ltb (h .missed) 4) .0 s in
+        by true (rw (few .1) (server-back (h .saved) (r .saved) ∙ sym (eqb-true _ _ (few .0)))))
+        (asked .server)
+
+    -- n polls were missed, and d more are with the one that is outstanding
+    missing : (d n : ℕ) → n + 1 + d ≡ h .missed → (f : List ℕ) (last : Option ℕ) (q : Outstanding) → isLast (h .last .0) last ≡ false
+        → From a (opened (unanswered f last (some q) n)) h
+    missing zero n m f last q z = last-poll f last (some q) n z (omega (arith, asked .missed))
+    missing (suc d) n m f last q z =
+        let k = choose (h .last .0) last in
+        let more : min 8 (n + 1) ≡ n + 1 = omega (arith, asked .missed) in
+        ask inside h _ (k .cookie) 0 false (k .polls) (lit< tt) (rw more (missing d (n + 1) (omega arith) f (some (k .cookie)) _ (k .before)))
+
+    asking : (f : List ℕ) (last : Option ℕ) → isLast (h .last .0) last ≡ false → Before f last
+    asking f last z = go (h .missed) refl
+      where
+        go : (n : ℕ) → h .missed ≡ n → Before f last
+        go zero m = last-poll f last none 0 z (sym m)
+        go (suc n) m =
+            let k = choose (h .last .0) last in
+            ask inside h _ (k .cookie) 0 false (k .polls) (lit< tt) (missing n 0 (omega arith) f (some (k .cookie)) _ (k .before))
 
   -- nothing was saved, so that nothing was taken
   unsaved : eqb (h .saved .t4) 0 ≡ true → From a (opened (newlyOpened (h .timescale) (h .chunk))) h
@@ -61,7 +97,7 @@ module _ {a : ℕ} (inside : a < 16) (h : Head) (fits : HeadFits h) (r : OpenRan
       let next : h .next ≡ 0 = ⊎-elim (λ k. omega arith) (λ k. omega arith) (r .taken) in
       let same : newlyOpened (h .timescale) (h .chunk) ≡ noneOutstanding h (h .next) (h .taken) (replicate 512 0) none (savedIn (h .saved)) = rw (next, taken, e) in
       subst⁻¹ (λ (o : Opened). From a (opened o) h) same
-      (by-outcome (eqb (h .outstanding) 0) (λ t. there _ (replicate 512 0) (rw (last-test, t, e))) (λ t. asking _ none t (last-polls (rw t) refl)))
+      (by-outcome (eqb (h .outstanding) 0) (λ t. none-left (replicate 512 0) none t (rw (last-test, t, e))) (λ t. asking t _ none refl))
 
   -- something was saved: rounds that each take a chunk, and one without, by the last cookie if no request is outstanding
   saved : eqb (h .saved .t4) 0 ≡ false → From a (opened (newlyOpened (h .timescale) (h .chunk))) h
@@ -79,8 +115,8 @@ module _ {a : ℕ} (inside : a < 16) (h : Head) (fits : HeadFits h) (r : OpenRan
           let once : (k : ℕ) → Polls k last → Before f (some k) → From a (opened (noneOutstanding h (h .next) (h .taken) f last v)) h =
           λ k p l. round inside h fits timescale nonzero (noneOutstanding h (h .next) (h .taken) f last v) k p [] tt tt tt (omega arith) (rw e at l) in
           by-outcome (eqb (h .outstanding) 0)
-          (λ t. let z = last-polls (rw (t, e)) n in once (h .last .0) z (there _ f (rw (t, ne-eqb (h .last .0) 0 (z .nonzero)))))
-          (λ t. let k = choose (h .last .0) last in once (k .cookie) (k .polls) (asking f _ t (last-polls (rw t) (k .before))))
+          (λ t. let z = last-polls (rw (t, e)) n in once (h .last .0) z (none-left f _ t (rw (ne-eqb (h .last .0) 0 (z .nonzero)))))
+          (λ t. let k = choose (h .last .0) last in once (k .cookie) (k .polls) (asking t f _ (k .before)))
 
   open-from-closed : From a closed h
   unfolding placeDo
@@ -103,5 +139,5 @@ every-in-range a inside h fits g =
     record {
       calls = l .calls;
       typed = l .typed;
-      leads = λ t n. head-after t n (l .calls) (l .typed) a inside ∙ l .leads closedTable refl (replicate-at 16 a closed);
+      leads = λ t n. head-reached t n (l .calls) (l .typed) a inside ∙ l .leads closedTable refl (replicate-at 16 a closed);
     }

@@ -50,7 +50,7 @@ choose z last =
 
 -- an open place with the head's timescale and chunk size where no request is outstanding
 abbrev pub noneOutstanding : Head → (next taken : ℕ) → List ℕ → Option ℕ → Option Exchange → Opened
-noneOutstanding h next taken f last v = record { timescale = h .timescale; chunk = h .chunk; next = next; filter = f; taken = firstTaken taken; last = last; outstanding = none; saved = v }
+noneOutstanding h next taken f last v = record { timescale = h .timescale; chunk = h .chunk; next = next; filter = f; taken = firstTaken taken; last = last; outstanding = none; saved = v; missed = 0 }
 
 -- calls lead to the head from each such place whose last cookie isn't the head's
 abbrev pub Leads : ℕ → Head → (next taken : ℕ) → Type 0

@@ -1,6 +1,6 @@
 -- Numbers in range come back from the place that they stand for. Assumes nothing.
 use mathlib.Core.Path.{_≡_, refl, sym, subst⁻¹}
-use mathlib.Core.Bool.{Bool, true, false, cond, _||_}
+use mathlib.Core.Bool.{Bool, true, false, cond, _||_, and-eq-true-iff}
 use mathlib.Core.List.{List}
 use mathlib.Core.Option.{Option, none, some}
 use Prim.Native.Nat.{ℕ}
@@ -8,7 +8,7 @@ use lib.Dec.{eqb, ltb}
 use lib.ListN.{replicate}
 use lib.Seq.{paste}
 use borrow.Author.Tests.{eqb-true, eqb-false}
-use Rattle.state.specs.Range.{inRange, savedAbsent, requestInRange, savedInRange}
+use Rattle.state.specs.Range.{inRange, requestAbsent, savedAbsent, requestInRange, savedInRange}
 use Rattle.state.specs.Plain.{Exchange, closed, opened, isLast, previous, savedServer}
 use Rattle.state.specs.Numbers.{noneSaved, firstTaken, countTaken, openedIn, requestIn, outstandingIn, cookieIn, exchangeIn, savedIn, cookieOf, outstandingOf, requestOf, savedOf, placeHead, HeadsBack}
 use Rattle.state.specs.Change.{takenAfter}
@@ -59,7 +59,7 @@ request-back : (h : Head) → requestInRange h ≡ true → (outstandingOf (outs
 request-back h g = go (eqb (h .outstanding) 0) refl
   where
     go : (b : Bool) → eqb (h .outstanding) 0 ≡ b → (outstandingOf (cond b none (some (requestIn h))) ≡ h .outstanding) × (requestOf (cond b none (some (requestIn h))) ≡ h .request)
-    go true e = (sym (eqb-true _ _ e), sym (none-asked (h .request) (rw e at g)))
+    go true e = (sym (eqb-true _ _ e), sym (none-asked (h .request) (and-eq-true-iff (requestAbsent (h .request)) (eqb (h .missed) 0) .0 (rw e at g) .0)))
     go false e = (sym (asked-ranges h g (eqb-false _ _ e) .one), refl)
 
 -- open numbers in range come back from their place
@@ -76,6 +76,7 @@ head-back h f o =
       outstanding = q .0 i;
       request = q .1 i;
       saved = saved-back (h .saved) (o .saved) i;
+      missed = h .missed;
     }
 
 -- all numbers in range come back from their place

@@ -31,6 +31,7 @@ closedHead = record {
   outstanding = 0;
   request = noRequest;
   saved = noneSaved;
+  missed = 0;
 }
 
 -- how many octets were taken; those that were are always the first ones, so that the number tells which
@@ -74,6 +75,7 @@ placeHead (opened o) = record {
   outstanding = outstandingOf (o .outstanding);
   request = requestOf (o .outstanding);
   saved = savedOf (o .saved);
+  missed = o .missed;
 }
 
 -- FROM NUMBERS TO A PLACE: what is 0 is absent
@@ -107,6 +109,7 @@ openedIn h f = record {
   last = cookieIn (h .last .0);
   outstanding = outstandingIn h;
   saved = savedIn (h .saved);
+  missed = h .missed;
 }
 
 abbrev pub placeIn : Head → List ℕ → Place
@@ -130,6 +133,7 @@ pub record HeadFits (h : Head) : Type 0 where
   pub saved-t3 : h .saved .t3 < 2 ^ 64
   pub saved-t4 : h .saved .t4 < 2 ^ 64
   pub saved-server : h .saved .server .0 < 2 ^ 64
+  pub missed : h .missed < 2 ^ 64
 
 -- NOTHING IS LOST: numbers in range come back from the place that they stand for
 

@@ -2,20 +2,20 @@
 use mathlib.Core.Path.{_≡_, refl, sym, ap, _∙_, subst, subst⁻¹}
 use mathlib.Core.Bool.{Bool, true, false}
 use mathlib.Core.List.{List, [], _∷_, _++_}
-use Prim.Native.Nat.{ℕ, _^_, _<_}
+use Prim.Native.Nat.{ℕ, _<_}
 use native.Mathlib.Omega.{arith}
 use borrow.Author.Tests.{ltb-true, ltb-false}
-use lib.Dec.{ltb, lit<}
+use lib.Dec.{ltb}
 use lib.ListN.{length, getD, set, drop}
 use lib.Seq.{getD-set-same}
 use Rattle.poll_request.specs.Request.{pollOctets, pollLength}
 use Rattle.poll_request.specs.declared.Asked.{Asked}
-use Rattle.state.specs.Plain.{Opened, Place, closed, opened, sentCookie, polled as polledPlace, placeDo}
+use Rattle.state.specs.Plain.{Opened, Place, closed, opened, polled as polledPlace, placeDo}
 use Rattle.state.specs.declared.event.Event.{Event}
 use Rattle.state.specs.declared.event.Event.the-variants.{Poll}
 use Rattle.state.specs.declared.event.Reply.{Reply}
 use Rattle.state.proofs.Chunks.{chunk-size}
-use Rattle.association.proofs.Reached.{GoodPlace, GoodOpened, ranges as open-ranges}
+use Rattle.association.proofs.Reached.{GoodPlace, GoodOpened, ranges as open-ranges, sent-fits}
 use Rattle.order.specs.Order.{TaggedCall, after, EveryCall}
 use Rattle.order.proofs.Permutations.{every-left, every-right}
 use Rattle.order.proofs.Simulate.{after-append}
@@ -103,11 +103,6 @@ module _ (k : Polling) (h : Asks k) where
   good-before : GoodOpened o
   good-before = subst GoodPlace (at .before) (good-at places a (good .all))
 
-  -- the server cookie that is sent is the saved one, or 0
-  server-fits : (i : Bool) → sentCookie i (o .saved) < 2 ^ 64
-  server-fits true = good-before .server
-  server-fits false = lit< tt
-
   ranges : Ranges (askedOf (k .interleaved) o) (k .cookie) (k .exponent)
   ranges =
       let before = open-ranges o good-before in
@@ -118,7 +113,7 @@ module _ (k : Polling) (h : Asks k) where
         timescale = before .timescale;
         poll = later-typed .0 .2;
         client = later-typed .0 .1;
-        server = server-fits (k .interleaved);
+        server = sent-fits o good-before (k .interleaved);
       }
 
   -- the place once it was polled

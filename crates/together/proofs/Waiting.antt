@@ -30,7 +30,7 @@ use Rattle.octets.proofs.Tests.{by-test}
 
 -- what a poll asks of an open place
 abbrev pub askedOf : Bool → Opened → Asked
-askedOf interleaved o = record { timescale = o .timescale; chunk = o .chunk; offset = o .next; server = record { 0 = sentCookie interleaved (o .saved) } }
+askedOf interleaved o = record { timescale = o .timescale; chunk = o .chunk; offset = o .next; server = record { 0 = sentCookie interleaved o } }
 
 -- a poll that is not refused
 pub record Polled (cookie : ℕ) (interleaved : Bool) (p : Place) (w : Reply × Place) : Type 0 where
@@ -67,7 +67,7 @@ polled-waits cookie interleaved o = record {
   place = polled cookie interleaved o;
   waiting = refl;
   chunk = refl;
-  request = record { client = cookie; server = sentCookie interleaved (o .saved); offset = o .next; t1 = 0 };
+  request = record { client = cookie; server = sentCookie interleaved o; offset = o .next; t1 = 0 };
   outstanding = refl;
   client = refl;
   server = refl;

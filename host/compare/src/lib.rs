@@ -4,7 +4,8 @@
 //! [`call::Call`] is a call with its arguments. It is made on three sides: the
 //! [`library`], the reference's [`plain`] table and store, and the reference on
 //! [`lent`](plain::Lent) ones. [`make`] draws calls at random; [`met`] counts what
-//! they led to; [`line`](mod@line) writes a call as the `cases` program reads it.
+//! they led to, and [`missed`] follows missed polls; [`line`](mod@line) writes a call
+//! as the `cases` program reads it.
 #![forbid(unsafe_code)]
 #![warn(missing_docs)]
 
@@ -16,6 +17,7 @@ pub mod library;
 pub mod line;
 pub mod make;
 pub mod met;
+pub mod missed;
 pub mod plain;
 pub mod random;
 pub mod reorder;

@@ -2,6 +2,7 @@
 
 use crate::call::{Call, Outcome, Returned};
 use crate::make::head::Clause;
+use crate::missed;
 use reference::association::CHUNK_SIZES;
 use reference::chain::{Fields, MAC};
 use reference::header::INTERLEAVED;
@@ -53,7 +54,8 @@ impl fmt::Display for Met {
     }
 }
 
-fn name(call: &Call) -> &'static str {
+/// The call's name.
+pub(crate) fn name(call: &Call) -> &'static str {
     match call {
         Call::Clear => "clear",
         Call::Open { .. } => "open",
@@ -76,13 +78,18 @@ fn name(call: &Call) -> &'static str {
     }
 }
 
-/// Whether the flag is set in a datagram's header.
-pub fn interleaved(datagram: &[u8]) -> &'static str {
-    if u16::from_be_bytes([datagram[6], datagram[7]]) & INTERLEAVED != 0 {
+/// The name of a mode.
+pub(crate) fn mode(interleaved: bool) -> &'static str {
+    if interleaved {
         "interleaved"
     } else {
         "basic"
     }
+}
+
+/// Whether the flag is set in a datagram's header.
+pub fn interleaved(datagram: &[u8]) -> &'static str {
+    mode(u16::from_be_bytes([datagram[6], datagram[7]]) & INTERLEAVED != 0)
 }
 
 /// What a datagram with a MAC led to: taken with the MAC as its last field, refused with 13
@@ -202,7 +209,7 @@ const OUTCOMES: [&str; 18] = [
 
 /// Every refusal of every call, every judgement with every chunk outcome, half an era in each
 /// of the four differences, every outcome of a datagram with a MAC, every verdict, 6 for
-/// every clause of a head's rule.
+/// every clause of a head's rule, and what [`missed`] tells of missed polls.
 fn required() -> Vec<String> {
     let mut required: Vec<String> = OUTCOMES.map(String::from).to_vec();
     for (call, numbers) in REFUSALS {
@@ -225,5 +232,6 @@ fn required() -> Vec<String> {
     for c in CHUNK_SIZES {
         required.push(format!("also: second turn of the filter with c = {c}"));
     }
+    required.extend(missed::required().iter().map(|what| format!("also: {what}")));
     required
 }

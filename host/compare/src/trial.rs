@@ -7,6 +7,7 @@ use crate::make;
 use crate::make::head::Clause;
 use crate::make::lent::Broken;
 use crate::met::{self, Met};
+use crate::missed::Runs;
 use crate::plain::{Lent, Plain};
 use crate::random::Random;
 use crate::reorder;
@@ -85,6 +86,7 @@ fn reached(kind: Kind, random: &mut Random, keep: bool, met: &mut Met) -> Result
         keep,
     };
     let calm = random.one_in(3);
+    let mut runs = Runs::default();
     for _ in 0..length {
         let call = match kind {
             Kind::Client => make::client::call(random, &plain.table, calm),
@@ -93,10 +95,10 @@ fn reached(kind: Kind, random: &mut Random, keep: bool, met: &mut Met) -> Result
         };
         let before = plain.clone();
         let outcome = trial.compare(&call, &mut plain, met)?;
+        let noted = noted(&call, &outcome, &before, records);
         let half_era = half_era(&call, &outcome, &before);
-        for what in [noted(&call, &outcome, &before, records), half_era].into_iter().flatten() {
-            met.also(&what);
-        }
+        let missed = runs.follow(&call, &outcome);
+        noted.into_iter().chain(half_era).chain(missed).for_each(|what| met.also(&what));
     }
     Ok(length as u64)
 }

@@ -2,10 +2,11 @@
 //! on any other is refused with 6.
 #![forbid(unsafe_code)]
 
-use compare::call::{Call, Side};
+use compare::call::{Call, Outcome, Side};
 use compare::library::Library;
 use compare::make;
 use compare::make::head::{self, Clause, Head};
+use compare::missed::{server_cookie, Runs};
 use compare::plain::{Lent, Plain};
 use compare::random::Random;
 use reference::lent::TABLE_NUMBERS;
@@ -14,7 +15,7 @@ use reference::table::PLACES;
 use std::collections::BTreeSet;
 
 /// Tables of sixteen heads each, to which calls are made to lead.
-const TABLES: usize = 200;
+const TABLES: usize = 1000;
 /// Lists of random calls, and the calls of each.
 const LISTS: (u64, usize) = (60, 300);
 /// Heads of each kind that are refused or not.
@@ -24,7 +25,7 @@ const HEADS: usize = 200;
 fn in_range(head: &Head) -> bool {
     let &[state, timescale, c, next, taken, last, outstanding, ref rest @ ..] = head;
     let &[server, offset, t1, ref kept @ ..] = rest;
-    let &[saved_timescale, saved_t1, saved_t2, saved_t3, saved_t4, known] = kept;
+    let &[saved_timescale, saved_t1, saved_t2, saved_t3, saved_t4, known, missed] = kept;
     let saved = saved_t4 != 0;
     let open = || {
         timescale <= 255
@@ -35,10 +36,11 @@ fn in_range(head: &Head) -> bool {
             && (taken == 0 || saved)
             && (last == 0) == (outstanding == 0 && !saved)
             && match outstanding {
-                0 => [server, offset, t1] == [0; 3],
-                1 => (server == 0 || server == known) && offset == next,
+                0 => [server, offset, t1, missed] == [0; 4],
+                1 => (server == 0 || server == known && missed < 4) && offset == next,
                 _ => false,
             }
+            && missed <= 8
             && match saved {
                 true => saved_timescale <= 255,
                 false => [saved_timescale, saved_t1, saved_t2, saved_t3, known] == [0; 5],
@@ -66,7 +68,7 @@ fn cleared() -> [(&'static str, Box<dyn Side>); 3] {
 /// A response to the request with this cookie, from which a head's saved numbers come;
 /// with `c` filter octets unless that is 0.
 fn response(cookie: u64, head: &Head, c: u64) -> Vec<u8> {
-    let &[.., timescale, _, t2, t3, _, server] = head;
+    let &[.., timescale, _, t2, t3, _, server, _] = head;
     let mut datagram = vec![0x2C, 0, 0, 0, timescale as u8];
     datagram.resize(16, 0);
     datagram.extend([server, cookie, t2, t3].map(u64::to_be_bytes).concat());
@@ -82,7 +84,7 @@ fn response(cookie: u64, head: &Head, c: u64) -> Vec<u8> {
 fn calls_to(association: u8, head: &Head) -> Vec<Call> {
     let &[state, timescale, c, next, taken, last, outstanding, server, _, t1, ref saved @ ..] =
         head;
-    let &[_, saved_t1, .., t4, _] = saved;
+    let &[_, saved_t1, .., t4, _, missed] = saved;
     if state == 0 {
         return Vec::new();
     }
@@ -104,6 +106,8 @@ fn calls_to(association: u8, head: &Head) -> Vec<Call> {
         calls.extend(sent(saved_t1));
         calls.push(Call::Receive { association, datagram, t4 });
     }
+    // Missed polls, each replaced by the next one.
+    calls.extend((1..=missed).map(|i| poll(others[i as usize % 2], i % 3 == 0)));
     if outstanding == 1 {
         calls.push(poll(last, server != 0));
         calls.extend(sent(t1));
@@ -111,10 +115,12 @@ fn calls_to(association: u8, head: &Head) -> Vec<Call> {
     calls
 }
 
-/// The kind of a head: what is there, and in which turn the filter is.
-fn kind(head: &Head) -> [u64; 5] {
-    let &[state, _, c, _, taken, _, outstanding, server, .., t4, _] = head;
-    [state * c, outstanding, u64::from(t4 != 0), u64::from(taken == 512), u64::from(server != 0)]
+/// The kind of a head: what is there, in which turn the filter is, and how many polls were
+/// missed.
+fn kind(head: &Head) -> [u64; 6] {
+    let &[state, _, c, _, taken, _, outstanding, server, .., t4, _, missed] = head;
+    let [saved, whole, known] = [t4 != 0, taken == 512, server != 0].map(u64::from);
+    [state * c, outstanding, saved, whole, known, missed]
 }
 
 #[test]
@@ -135,28 +141,56 @@ fn every_head_in_range_is_reached() {
         }
         assert!(wanted.iter().all(in_range), "{wanted:?}");
     }
-    // Closed, or for each c: opened, polled, answered in either turn, and polled again with
-    // or without a server cookie.
-    assert_eq!(kinds.len(), 1 + 6 * (1 + 1 + 2 + 4));
+    // Closed, or for each c: opened, polled with 0 to 8 missed, answered in either turn, and
+    // polled again without a server cookie, or with one and 0 to 3 missed.
+    assert_eq!(kinds.len(), 1 + 6 * (1 + 9 + 2 + 2 * (9 + 4)));
+}
+
+/// Makes lists of random calls on every side, and shows each call, what it gave back and the
+/// heads that it left. A list has a state of its own for each side.
+fn in_lists<S: Default>(mut look: impl FnMut(&mut S, &Call, &Outcome, &[Head], &str)) {
+    for seed in 0..LISTS.0 {
+        let mut random = Random::new(seed);
+        let mut shown = Plain::new(1);
+        let mut sides = cleared().map(|(name, side)| (name, side, S::default()));
+        for _ in 0..LISTS.1 {
+            let call = make::client::call(&mut random, &shown.table, seed % 3 > 0);
+            shown.make(&call);
+            for (name, side, state) in &mut sides {
+                let outcome = side.make(&call);
+                look(state, &call, &outcome, &heads(&side.table()), name);
+            }
+        }
+    }
 }
 
 #[test]
 fn every_head_reached_is_in_range() {
-    for seed in 0..LISTS.0 {
-        let mut random = Random::new(seed);
-        let mut shown = Plain::new(1);
-        let mut sides = cleared();
-        for _ in 0..LISTS.1 {
-            let call = make::client::call(&mut random, &shown.table, seed % 3 > 0);
-            shown.make(&call);
-            for (name, side) in &mut sides {
-                side.make(&call);
-                for head in heads(&side.table()) {
-                    assert!(in_range(&head), "{name}: {head:?} after {call:?}");
-                }
-            }
+    in_lists(|(), call, _, heads, name| {
+        for head in heads {
+            assert!(in_range(head), "{name}: {head:?} after {call:?}");
         }
-    }
+    });
+}
+
+/// The calls and what they gave back tell the number, and with it the server cookie of a poll.
+#[test]
+fn missed_polls_are_those_of_the_calls() {
+    let mut numbers = BTreeSet::new();
+    in_lists(|runs: &mut Runs, call, outcome, heads, name| {
+        runs.follow(call, outcome);
+        for (association, head) in heads.iter().enumerate() {
+            assert_eq!(head[16], runs.missed(association), "{name}: {association} after {call:?}");
+            numbers.insert(head[16]);
+        }
+        if let (&Call::Poll { association, interleaved, .. }, 0) =
+            (call, outcome.returned.refusal())
+        {
+            let due = runs.due_cookie(association.into(), interleaved);
+            assert_eq!(server_cookie(&outcome.out), due, "{name}: {call:?}");
+        }
+    });
+    assert!(numbers.into_iter().eq(0..=8));
 }
 
 /// Every call on one association, with arguments that are not refused with 6.

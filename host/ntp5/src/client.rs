@@ -49,7 +49,7 @@ pub enum Verdict {
 /// A client's table in numbers that `B` owns or borrows. Associations are 0 to 15;
 /// any other is refused with 6, as are numbers that are no table.
 ///
-/// It has 1,280 numbers, 80 for each association: a head of 16, then the filter's 64
+/// It has 1,296 numbers, 81 for each association: a head of 17, then the filter's 64
 /// words. Word i is the filter's octets 8i to 8i + 7, the first of them the lowest.
 #[derive(Clone, Debug, PartialEq, Eq)]
 pub struct Table<B>(B);
@@ -95,6 +95,10 @@ impl<B: AsRef<[u64]> + AsMut<[u64]>> Table<B> {
 
     /// Writes a request, which becomes the outstanding one (refusals 6, 7, 8, 11);
     /// gives the datagram's length.
+    ///
+    /// In interleaved mode it sends the server cookie of the last accepted response; after
+    /// four missed polls, that is requests replaced unanswered, it sends 0 until a response
+    /// is accepted.
     pub fn poll(
         &mut self,
         association: u8,

@@ -21,6 +21,27 @@ fn server(filter: &Filter) -> Server<'_> {
     }
 }
 
+/// Polls and answers once; gives the request's header and the response.
+fn ask(
+    table: &mut Table<Vec<u64>>,
+    store: &mut Store<Vec<u8>>,
+    filter: &Filter,
+    mode: Mode,
+    at: u64,
+) -> Result<(Header, Vec<u8>), Refusal> {
+    let (mut request, mut response) = ([0; 600], vec![0; 600]);
+    let length = table.poll(3, ClientCookie(at), 6, mode, &mut request)?;
+    table.sent(3, at)?;
+    let occasion = Occasion { receive: at + 11, estimate: at + 12, fresh: ServerCookie(at) };
+    let request = &request[..length];
+    let length = store.answer(request, &occasion, &server(filter), &mut response)?;
+    response.truncate(length);
+    if mode == Mode::Interleaved {
+        store.report(ServerCookie(at), at + 15)?;
+    }
+    Ok((Header::read(request, REQUEST)?, response))
+}
+
 /// Polls, answers and receives once; the response comes 30 after `at`.
 fn exchange(
     table: &mut Table<Vec<u64>>,
@@ -29,16 +50,23 @@ fn exchange(
     mode: Mode,
     at: u64,
 ) -> Result<Received, Refusal> {
-    let (mut request, mut response) = ([0; 600], [0; 600]);
-    let length = table.poll(3, ClientCookie(at), 6, mode, &mut request)?;
-    table.sent(3, at)?;
-    let occasion = Occasion { receive: at + 11, estimate: at + 12, fresh: ServerCookie(at) };
-    let request = &request[..length];
-    let length = store.answer(request, &occasion, &server(filter), &mut response)?;
-    if mode == Mode::Interleaved {
-        store.report(ServerCookie(at), at + 15)?;
-    }
-    table.receive(3, &response[..length], at + 30)
+    let (_, response) = ask(table, store, filter, mode, at)?;
+    table.receive(3, &response, at + 30)
+}
+
+/// What a response gives of which the chunk was taken.
+fn usable(offset: i64, delay: u64) -> Received {
+    Received { measured: Ok(Measured { offset, delay }), chunk: Chunk::Taken }
+}
+
+/// Measured with the estimate as T3, 12 after T1. T2 comes 11 after T1, and T4 30.
+fn basic() -> Received {
+    usable((11 - 18_i64).div_euclid(2), 29)
+}
+
+/// Measured with the reported time as T3, 15 after T1.
+fn interleaved() -> Received {
+    usable((11 - 15_i64).div_euclid(2), 26)
 }
 
 #[test]
@@ -50,19 +78,41 @@ fn client_and_responder() -> Result<(), Refusal> {
     store.clear()?;
     table.open(3, 1, 256)?;
     assert_eq!(table.loop_verdict(3, &ID), Ok(Verdict::Incomplete));
-    let usable =
-        |offset, delay| Received { measured: Ok(Measured { offset, delay }), chunk: Chunk::Taken };
     let first = exchange(&mut table, &mut store, &filter, Mode::Interleaved, 1000)?;
-    assert_eq!(first, usable((11 - 18_i64).div_euclid(2), 29));
+    assert_eq!(first, basic());
     assert_eq!(table.publish(1 << 3, &ID), Err(Refusal::State));
     let second = exchange(&mut table, &mut store, &filter, Mode::Interleaved, 2000)?;
-    assert_eq!(second, usable((11 - 15_i64).div_euclid(2), 26), "the reported time was sent");
+    assert_eq!(second, interleaved(), "the reported time was sent");
     assert_eq!(table.loop_verdict(3, &ID), Ok(Verdict::Loop));
     assert_eq!(table.loop_verdict(3, &ReferenceId([9; 15])), Ok(Verdict::Clear));
     assert_eq!(table.publish(1 << 3, &ID), Ok(filter));
     table.close(3)?;
     assert_eq!(table.close(3), Err(Refusal::State));
     assert!(table.into_inner().iter().all(|&number| number == 0));
+    Ok(())
+}
+
+/// W211: after four lost answers the fifth poll sends no server cookie, so that its answer is
+/// basic; with the cookie of that answer the next exchange is interleaved again.
+#[test]
+fn interleaved_again_after_lost_answers() -> Result<(), Refusal> {
+    let (mut table, mut store, filter) = (Table::new(), Store::new(2), Filter::FRESH);
+    table.open(3, 1, 256)?;
+    let mode = Mode::Interleaved;
+    assert_eq!(exchange(&mut table, &mut store, &filter, mode, 1000), Ok(basic()));
+    assert_eq!(exchange(&mut table, &mut store, &filter, mode, 2000), Ok(interleaved()));
+    for at in [3000, 4000, 5000, 6000] {
+        let (request, _) = ask(&mut table, &mut store, &filter, mode, at)?;
+        let sent = (request.flags, request.server_cookie);
+        assert_eq!(sent, (INTERLEAVED, ServerCookie(2000)), "at {at}");
+    }
+    let (request, response) = ask(&mut table, &mut store, &filter, mode, 7000)?;
+    let sent = (request.flags, request.server_cookie);
+    assert_eq!(sent, (INTERLEAVED, ServerCookie(0)), "interleaved is wanted still");
+    let answer = Header::read(&response, RESPONSE)?;
+    assert_eq!((answer.flags & INTERLEAVED, answer.server_cookie), (0, ServerCookie(7000)));
+    assert_eq!(table.receive(3, &response, 7030), Ok(basic()));
+    assert_eq!(exchange(&mut table, &mut store, &filter, mode, 8000), Ok(interleaved()));
     Ok(())
 }
 
@@ -76,7 +126,7 @@ fn response(cookie: ClientCookie, chunk: &[u8]) -> Result<Vec<u8>, Refusal> {
     Ok(datagram)
 }
 
-/// Word i of the filter of association a is number 80a + 16 + i.
+/// Word i of the filter of association a is number 81a + 17 + i.
 #[test]
 fn filter_words_are_the_octets_taken() -> Result<(), Refusal> {
     const LAST: u8 = 15;
@@ -90,8 +140,8 @@ fn filter_words_are_the_octets_taken() -> Result<(), Refusal> {
         table.receive(LAST, &response(cookie, &chunk)?, 1)?;
         filter[64 * turn % 512..][..64].copy_from_slice(&chunk);
         let numbers = table.clone().into_inner();
-        let (others, own) = numbers.split_at(80 * usize::from(LAST));
-        let octets = own[16..].iter().flat_map(|word| word.to_le_bytes());
+        let (others, own) = numbers.split_at(81 * usize::from(LAST));
+        let octets = own[17..].iter().flat_map(|word| word.to_le_bytes());
         assert!(octets.eq(filter), "after chunk {turn}");
         assert!(others.iter().all(|&number| number == 0), "after chunk {turn}");
     }
@@ -116,15 +166,15 @@ fn made_on(length: usize) -> ([Option<Refusal>; 8], Vec<u64>) {
 
 #[test]
 fn tables_of_another_length_are_refused() {
-    for length in [0, 1, 80, 1279, 1281, 2560] {
+    for length in [0, 1, 81, 1280, 1295, 1297, 2592] {
         let (refused, left) = made_on(length);
         assert_eq!(refused, [Some(Refusal::Argument); 8], "{length} numbers");
         assert_eq!(left, vec![7; length]);
     }
-    let (refused, left) = made_on(1280);
+    let (refused, left) = made_on(1296);
     let received = Some(Refusal::DatagramLength);
     assert_eq!(refused, [None, None, None, None, received, None, None, None]);
-    assert_eq!(left, vec![0; 1280]);
+    assert_eq!(left, vec![0; 1296]);
 }
 
 #[test]

@@ -9,6 +9,10 @@ use crate::refusal::Refusal;
 
 /// The chunk sizes that are offered.
 pub const CHUNK_SIZES: [u16; 6] = [16, 32, 64, 128, 256, 512];
+/// The most missed polls that are counted (W211-2).
+pub const MISSED_MAX: u8 = 8;
+/// From this many missed polls on, a poll sends server cookie 0 (W211-5).
+pub const MISSED_NO_COOKIE: u8 = 4;
 
 /// Which of the 512 filter octets were taken since opening, one bit each.
 #[derive(Clone, Copy, Debug, PartialEq, Eq)]
@@ -80,6 +84,9 @@ pub struct Association {
     pub outstanding: Option<Request>,
     /// What the last accepted response left.
     pub saved: Option<Saved>,
+    /// Missed polls: how many of the latest polls were replaced unanswered, at most
+    /// [`MISSED_MAX`].
+    pub missed: u8,
 }
 
 impl Association {
@@ -97,10 +104,15 @@ impl Association {
             last_cookie: None,
             outstanding: None,
             saved: None,
+            missed: 0,
         })
     }
 
     /// Writes a request, which becomes the outstanding one (refusals 8, 11); gives its length.
+    /// Its server cookie is the saved one if interleaved is wanted and fewer polls than
+    /// [`MISSED_NO_COOKIE`] were missed, else 0.
+    // As a function of its own it would have a lent place copied once more.
+    #[inline]
     pub fn poll(
         &mut self,
         cookie: ClientCookie,
@@ -113,7 +125,9 @@ impl Association {
         }
         let length = poll_octets(self.chunk);
         let out = out.get_mut(..length).ok_or(Refusal::Room)?;
-        let known = self.saved.filter(|_| mode == Mode::Interleaved);
+        // The request that is replaced is counted before the server cookie is chosen (W211-4).
+        let missed = (self.missed + u8::from(self.outstanding.is_some())).min(MISSED_MAX);
+        let known = self.saved.filter(|_| mode == Mode::Interleaved && missed < MISSED_NO_COOKIE);
         let request = Request {
             client_cookie: cookie,
             server_cookie: known.map_or_else(Default::default, |saved| saved.server_cookie),
@@ -123,6 +137,7 @@ impl Association {
         write_poll(out, &request, mode, exponent, self.timescale, self.chunk);
         self.last_cookie = Some(cookie);
         self.outstanding = Some(request);
+        self.missed = missed;
         Ok(length)
     }
 
@@ -151,6 +166,7 @@ impl Association {
                 Err(why) => (why, Measured { offset: 0, delay: 0 }),
             };
         self.outstanding = None;
+        self.missed = 0;
         self.saved = Some(Saved {
             timescale: header.timescale,
             times: basic,

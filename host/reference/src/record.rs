@@ -1,9 +1,10 @@
-//! A place as the 80 numbers in which a lent table keeps it.
+//! A place as the 81 numbers in which a lent table keeps it.
 //!
-//! A head of sixteen, then the filter's 64 words: word i is octets 8i to 8i + 7, the
+//! A head of seventeen, then the filter's 64 words: word i is octets 8i to 8i + 7, the
 //! first of them the lowest. What is absent is 0, and a closed place's numbers are all 0.
 
-use crate::association::{Association, Place, Taken, CHUNK_SIZES};
+use crate::association::{Association, Place, Taken};
+use crate::association::{CHUNK_SIZES, MISSED_MAX, MISSED_NO_COOKIE};
 use crate::exchange::{Request, Saved};
 use crate::filter::{Filter, OCTETS as FILTER_OCTETS};
 use crate::header::{ClientCookie, ServerCookie};
@@ -11,7 +12,7 @@ use crate::measure::Times;
 use crate::refusal::Refusal;
 
 /// Numbers of a record's head.
-pub const HEAD: usize = 16;
+pub const HEAD: usize = 17;
 /// Words of a filter.
 pub const WORDS: usize = FILTER_OCTETS / 8;
 /// Numbers of a record.
@@ -33,7 +34,7 @@ pub fn decode(record: &[u64; NUMBERS]) -> Result<Place, Refusal> {
 
 /// The association of an open record, if calls on a cleared table can lead to it.
 fn opened(head: &Head, words: &[u64]) -> Option<Association> {
-    let &[1, timescale, chunk, next, count, last, ..] = head else {
+    let &[1, timescale, chunk, next, count, last, .., missed] = head else {
         return None;
     };
     let chunk = CHUNK_SIZES.into_iter().find(|&c| u64::from(c) == chunk)?;
@@ -57,6 +58,7 @@ fn opened(head: &Head, words: &[u64]) -> Option<Association> {
         last_cookie: (last != 0).then_some(ClientCookie(last)),
         outstanding,
         saved,
+        missed: u8::try_from(missed).ok().filter(|&missed| missed <= MISSED_MAX)?,
     })
 }
 
@@ -68,7 +70,7 @@ fn offset(number: u64, c: u16) -> Option<u16> {
 
 /// What the last accepted response left: all 0 if T4 is, which no accepted response has.
 fn saved(head: &Head) -> Option<Option<Saved>> {
-    let &[.., timescale, t1, t2, t3, t4, cookie] = head;
+    let &[.., timescale, t1, t2, t3, t4, cookie, _] = head;
     if t4 == 0 {
         return [timescale, t1, t2, t3, cookie].iter().all(|&n| n == 0).then_some(None);
     }
@@ -79,20 +81,20 @@ fn saved(head: &Head) -> Option<Option<Saved>> {
     }))
 }
 
-/// The outstanding request. Nothing was taken or saved since its poll, so it asked
-/// the next offset and sent the saved server cookie or none.
+/// The outstanding request. Nothing was taken or saved since its poll, so it asked the next
+/// offset, and sent server cookie 0, or the saved one with fewer than four missed polls.
+/// The poll that replaced the last missed one is outstanding, so without it none is missed.
 fn outstanding(head: &Head, next_offset: u16) -> Option<Option<Request>> {
-    let &[_, _, _, _, _, last, flag, cookie, at, t1, .., known] = head;
+    let &[_, _, _, _, _, last, flag, cookie, at, t1, .., known, missed] = head;
+    let sent = || cookie == 0 || (cookie == known && missed < MISSED_NO_COOKIE.into());
     match flag {
-        0 => [cookie, at, t1].iter().all(|&n| n == 0).then_some(None),
-        1 if at == u64::from(next_offset) && (cookie == 0 || cookie == known) => {
-            Some(Some(Request {
-                client_cookie: ClientCookie(last),
-                server_cookie: ServerCookie(cookie),
-                offset: next_offset,
-                t1,
-            }))
-        }
+        0 => [cookie, at, t1, missed].iter().all(|&n| n == 0).then_some(None),
+        1 if at == u64::from(next_offset) && sent() => Some(Some(Request {
+            client_cookie: ClientCookie(last),
+            server_cookie: ServerCookie(cookie),
+            offset: next_offset,
+            t1,
+        })),
         _ => None,
     }
 }
@@ -144,5 +146,6 @@ fn head_of(open: &Association) -> Head {
         head[11..15].copy_from_slice(&[times.t1, times.t2, times.t3, times.t4]);
         head[15] = server_cookie.0;
     }
+    head[16] = open.missed.into();
     head
 }

@@ -8,13 +8,13 @@ type Head = [u64; HEAD];
 
 const CLOSED: Head = [0; HEAD];
 /// As opened.
-const OPENED: Head = [1, 0, 16, 0, 0, 0, 0, 0, 0, 0, 0, 0, 0, 0, 0, 0];
+const OPENED: Head = [1, 0, 16, 0, 0, 0, 0, 0, 0, 0, 0, 0, 0, 0, 0, 0, 0];
 /// Polled once.
-const POLLED: Head = [1, 255, 512, 0, 0, 7, 1, 0, 0, 0, 0, 0, 0, 0, 0, 0];
+const POLLED: Head = [1, 255, 512, 0, 0, 7, 1, 0, 0, 0, 0, 0, 0, 0, 0, 0, 0];
 /// Two chunks taken, nothing outstanding.
-const SAVED: Head = [1, 0, 16, 32, 32, 7, 0, 0, 0, 0, 255, 0, 0, 0, 4, 9];
+const SAVED: Head = [1, 0, 16, 32, 32, 7, 0, 0, 0, 0, 255, 0, 0, 0, 4, 9, 0];
 /// As [`SAVED`], then polled interleaved and sent.
-const ASKED: Head = [1, 0, 16, 32, 32, 8, 1, 9, 32, 5, 0, 1, 2, 3, 4, 9];
+const ASKED: Head = [1, 0, 16, 32, 32, 8, 1, 9, 32, 5, 0, 1, 2, 3, 4, 9, 0];
 
 /// A head with some of its numbers changed.
 fn with(mut head: Head, changes: &[(usize, u64)]) -> Head {
@@ -48,9 +48,13 @@ fn heads_in_range_are_read_and_written_again() {
         with(ASKED, &[(7, 0), (9, 0)]),
         with(ASKED, &[(7, 0), (15, 0)]),
     ] {
-        let place = decode(&record(&head)).unwrap_or_else(|_| panic!("{head:?}"));
-        assert_eq!(encode(&place), record(&head), "{head:?}");
+        read_and_written(&head);
     }
+}
+
+fn read_and_written(head: &Head) {
+    let place = decode(&record(head)).unwrap_or_else(|_| panic!("{head:?}"));
+    assert_eq!(encode(&place), record(head), "{head:?}");
 }
 
 fn refused(head: &Head) {
@@ -111,4 +115,25 @@ fn w210_a_filter_is_kept_as_words() {
     record[NUMBERS - 2..].copy_from_slice(&[0x1817_1615_1413_1211, 0x201F_1E1D_1C1B_1A19]);
     assert_eq!(encode(&place), record);
     assert!(decode(&record) == Ok(place));
+}
+
+/// W211-6: up to 3 with a server cookie, up to 8 without, none without a request.
+#[test]
+fn w211_missed_polls_have_their_range() {
+    let heads = [
+        (ASKED, 3),
+        (with(ASKED, &[(7, 0)]), 8),
+        (with(ASKED, &[(7, 0), (15, 0)]), 8),
+        (POLLED, 8),
+        (SAVED, 0),
+        (OPENED, 0),
+        (CLOSED, 0),
+    ];
+    // The last ones have a lowest octet in range.
+    for missed in (0..=10).chain([255, u64::MAX, 256, 257, 260, 1 << 32]) {
+        for (head, most) in heads {
+            let look = if missed <= most { read_and_written } else { refused };
+            look(&with(head, &[(16, missed)]));
+        }
+    }
 }

@@ -23,6 +23,9 @@ pub fn call(random: &mut Random, table: &Table, calm: bool) -> Call {
             None => opening(random, association),
             Some(some) => match some.outstanding {
                 None => polling(random, association, open),
+                Some(_) if stays_unanswered(random, association, some) => {
+                    while_unanswered(random, association, some)
+                }
                 Some(request) if request.t1 == 0 && !random.one_in(3) => {
                     sending(random, association)
                 }
@@ -81,6 +84,30 @@ fn polling(random: &mut Random, association: u8, open: Option<&Association>) -> 
         exponent: random.any() as i8,
         interleaved: random.below(3) > 0,
         out: random.octets(room),
+    }
+}
+
+/// Whether the outstanding request stays without an answer for now: mostly, if one did before,
+/// so that more polls are missed than are counted. Those of even associations do not, so that
+/// the filters of these get far.
+fn stays_unanswered(random: &mut Random, association: u8, open: &Association) -> bool {
+    match (association % 2, open.missed) {
+        (0, _) => false,
+        (_, 0) => random.one_in(8),
+        _ => !random.one_in(12),
+    }
+}
+
+/// A call while the server does not answer: mostly another poll, else a report of T1 or a
+/// response that is to be refused.
+fn while_unanswered(random: &mut Random, association: u8, open: &Association) -> Call {
+    match random.below(8) {
+        0 => sending(random, association),
+        1 => {
+            let t4 = random.time();
+            Call::Receive { association, datagram: datagram::wrong_response(random, open, t4), t4 }
+        }
+        _ => polling(random, association, Some(open)),
     }
 }
 

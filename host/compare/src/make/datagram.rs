@@ -167,6 +167,21 @@ pub fn response(random: &mut Random, open: Option<&Association>, t4: u64) -> Vec
     datagram
 }
 
+/// A response that is to be refused: it has another client cookie than the outstanding request,
+/// or is interleaved where that one has no server cookie; once in a while it is damaged, too.
+pub fn wrong_response(random: &mut Random, open: &Association, t4: u64) -> Vec<u8> {
+    let mut datagram = response(random, Some(open), t4);
+    let known = open.outstanding.is_some_and(|request| request.server_cookie.0 != 0);
+    let (place, bit) = if known || random.one_in(2) { (31, 1) } else { (7, INTERLEAVED as u8) };
+    if let Some(octet) = datagram.get_mut(place) {
+        *octet ^= bit;
+    }
+    if random.one_in(3) && !datagram.is_empty() {
+        damage(random, &mut datagram);
+    }
+    datagram
+}
+
 /// Appends a filter response, mostly one of `c` octets.
 fn push_chunk(random: &mut Random, datagram: &mut Vec<u8>, c: usize) {
     let size = match random.below(12) {

@@ -4,12 +4,18 @@ use crate::random::Random;
 use reference::association::CHUNK_SIZES;
 use reference::record::HEAD;
 
-/// A record's sixteen numbers, in the order of their places.
+/// A head's seventeen numbers, in the order of their places.
 pub type Head = [u64; HEAD];
 
 /// Numbers at which a range begins or ends, or near them.
-const EDGES: [u64; 18] =
-    [0, 1, 2, 15, 16, 32, 48, 255, 256, 496, 511, 512, 513, 528, 1024, 1 << 32, 1 << 63, u64::MAX];
+#[rustfmt::skip]
+const EDGES: [u64; 22] = [
+    0, 1, 2, 3, 4, 8, 9, 15, 16, 32, 48, 255, 256, 496, 511, 512, 513, 528, 1024,
+    1 << 32, 1 << 63, u64::MAX,
+];
+
+/// Numbers of missed polls, those at an edge of a range twice.
+const MISSED: [u64; 13] = [0, 0, 1, 2, 3, 3, 4, 4, 5, 6, 7, 8, 8];
 
 /// What is asked of the numbers, so that calls on a cleared table lead to them.
 #[derive(Clone, Copy, Debug, PartialEq, Eq)]
@@ -44,11 +50,17 @@ pub enum Clause {
     SavedTimescale,
     /// What is saved beside T4 is 0 if T4 is.
     SavedAbsent,
+    /// At most 8 polls were missed.
+    Missed,
+    /// None was missed if nothing is outstanding.
+    MissedAlone,
+    /// Fewer than 4 were missed if the outstanding request sent a server cookie.
+    MissedCookie,
 }
 
 impl Clause {
     /// All clauses.
-    pub const ALL: [Clause; 15] = [
+    pub const ALL: [Clause; 18] = [
         Clause::State,
         Clause::Closed,
         Clause::Timescale,
@@ -64,6 +76,9 @@ impl Clause {
         Clause::RequestAbsent,
         Clause::SavedTimescale,
         Clause::SavedAbsent,
+        Clause::Missed,
+        Clause::MissedAlone,
+        Clause::MissedCookie,
     ];
 
     /// Whether a request is outstanding and something saved in a head where this clause is broken.
@@ -75,8 +90,32 @@ impl Clause {
             Clause::LastMissing => (asked || !saved, saved),
             Clause::LastAlone => (false, false),
             Clause::Outstanding | Clause::RequestCookie | Clause::RequestOffset => (true, saved),
-            Clause::RequestAbsent => (false, saved),
+            Clause::RequestAbsent | Clause::MissedAlone => (false, saved),
+            Clause::Missed => (true, saved),
+            Clause::MissedCookie => (true, true),
             _ => (asked, saved),
+        }
+    }
+
+    /// Whether a head in range lets the clauses on missed polls and on the request's server
+    /// cookie be broken one without the other.
+    fn alone(self, head: &Head) -> bool {
+        match self {
+            Clause::RequestCookie => head[16] < 4,
+            Clause::Missed => head[7] == 0,
+            Clause::MissedCookie => head[7] != 0,
+            _ => true,
+        }
+    }
+
+    /// An open head in range in which this clause is to be broken.
+    fn head(self, random: &mut Random) -> Head {
+        loop {
+            let (asked, saved) = self.occasion(random);
+            let head = open(random, asked, saved);
+            if self.alone(&head) {
+                return head;
+            }
         }
     }
 }
@@ -101,7 +140,7 @@ fn open(random: &mut Random, asked: bool, saved: bool) -> Head {
         head[3] = c * random.below(512 / c as usize) as u64;
         head[4] = random.pick(&[head[3], 512]);
         head[10] = timescale(random);
-        head[11..].fill_with(|| random.time());
+        head[11..16].fill_with(|| random.time());
         head[14] = random.number().max(1);
     }
     if asked || saved {
@@ -109,9 +148,11 @@ fn open(random: &mut Random, asked: bool, saved: bool) -> Head {
     }
     if asked {
         head[6] = 1;
-        head[7] = random.pick(&[0, head[15], head[15]]);
         head[8] = head[3];
         head[9] = if random.one_in(2) { 0 } else { random.time() };
+        head[16] = random.pick(&MISSED);
+        let known = if head[16] < 4 { head[15] } else { 0 };
+        head[7] = random.pick(&[0, known, known]);
     }
     head
 }
@@ -150,25 +191,24 @@ pub fn changed(random: &mut Random) -> Head {
 
 /// A head in which this clause is broken; the others hold where they can without it.
 pub fn broken(random: &mut Random, clause: Clause) -> Head {
-    let (asked, saved) = clause.occasion(random);
     let mut head = match clause {
         Clause::Closed => [0; HEAD],
-        _ => open(random, asked, saved),
+        _ => clause.head(random),
     };
-    let [state, _, _, next, taken, ..] = head;
+    let [state, _, _, next, taken, _, asked, ..] = head;
     let (at, number) = wrong(random, clause, &head);
     head[at] = number;
     // What has to be the next offset goes with it.
     if state == 1 && at == 3 {
         head[4] = if taken == next { number } else { taken };
-        head[8] = if asked { number } else { 0 };
+        head[8] = if asked == 1 { number } else { 0 };
     }
     head
 }
 
 /// The place of a number and a value with which it breaks the clause.
 fn wrong(random: &mut Random, clause: Clause, head: &Head) -> (usize, u64) {
-    let &[_, _, c, next, .., known] = head;
+    let &[_, _, c, next, .., known, _] = head;
     let offered = |n: u64| CHUNK_SIZES.iter().any(|&size| n == size.into());
     match clause {
         Clause::State => (0, such(random, |n| n > 1)),
@@ -187,5 +227,8 @@ fn wrong(random: &mut Random, clause: Clause, head: &Head) -> (usize, u64) {
         Clause::RequestAbsent => (7 + random.below(3), random.pick(&[next, known, 1]).max(1)),
         Clause::SavedTimescale => (10, such(random, |n| n > 255)),
         Clause::SavedAbsent => (random.pick(&[10, 11, 12, 13, 15]), such(random, |n| n != 0)),
+        Clause::Missed => (16, such(random, |n| n > 8)),
+        Clause::MissedAlone => (16, 1 + random.below(8) as u64),
+        Clause::MissedCookie => (16, 4 + random.below(5) as u64),
     }
 }

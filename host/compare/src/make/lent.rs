@@ -19,7 +19,7 @@ pub fn table(random: &mut Random) -> (Vec<u64>, Broken) {
         *clause = place(random, &mut numbers);
     }
     if random.one_in(30) {
-        let size = random.pick(&[0, 1, 80, 1279, 1281, 2048, 10_240]);
+        let size = random.pick(&[0, 1, 81, 1280, 1295, 1297, 2048, 10_368]);
         numbers.resize(size, 0);
         broken = [None; PLACES];
     }

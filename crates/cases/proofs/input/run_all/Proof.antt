@@ -6,7 +6,7 @@ use Rattle.cases.proofs.input.run_all.Statement.{statement}
 use Rattle.cases.proofs.input.run_all.Tie as tie
 
 abbrev Inv-loop : tie.InvT-loop
-Inv-loop file name rows text₀ line₀ table₀ kept₀ state₀ turns₀ text line table kept state turns = (length text ≡ 65536) × (length line ≡ 65536) × (length table ≡ 1280) × (length kept ≡ 4098)
+Inv-loop file name rows text₀ line₀ table₀ kept₀ state₀ turns₀ text line table kept state turns = (length text ≡ 65536) × (length line ≡ 65536) × (length table ≡ 1296) × (length kept ≡ 4098)
 
 abbrev μ-loop : tie.MeasureT-loop
 μ-loop file name rows text₀ line₀ table₀ kept₀ state₀ turns₀ text line table kept state turns = turns
