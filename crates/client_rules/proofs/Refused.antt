@@ -23,7 +23,7 @@ use Rattle.octets.proofs.Tests.{by-test}
 use Rattle.association.specs.Record.{headOf, recordSize}
 use Rattle.association.specs.Encode.{decode}
 use Rattle.association.specs.Step.{onNumbers}
-use Rattle.association.proofs.Reached.{by-request}
+use Rattle.state.proofs.Refused.{by-request}
 use Rattle.client_rules.specs.Call.{Call, clearTable, openOne, closeOne, poll, sent, receive, loopVerdict, publish, Answer, plainAnswer, refusalAnswer, pollAnswer, receiveAnswer}
 use Rattle.client_rules.specs.Select.{Seen, wrongId, allSelected, inRangeSeen, completeSeen, verdictFor, publishFor}
 use Rattle.client_rules.specs.Step.{eventOn, clearing, publishing}

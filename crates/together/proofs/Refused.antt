@@ -12,7 +12,7 @@ use Rattle.state.specs.declared.event.Event.{Event}
 use Rattle.state.specs.declared.event.Event.the-variants.{Poll, Receive}
 use Rattle.state.specs.declared.event.Reply.{Reply}
 use Rattle.octets.proofs.Tests.{by-test}
-use Rattle.association.proofs.Simulate.{refused-same}
+use Rattle.state.proofs.Refused.{refused-same}
 use Rattle.client_rules.proofs.Refused.{number-of}
 use Rattle.client_rules.specs.Call.{Call, clearTable, openOne, closeOne, poll, sent, receive, loopVerdict, publish}
 use Rattle.client_rules.specs.Step.{eventOn, clearing}

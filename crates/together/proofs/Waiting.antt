@@ -16,7 +16,7 @@ use Rattle.state.specs.Plain.{Outstanding, Opened, Place, closed, opened, polle
 use Rattle.state.specs.declared.event.Event.{Event}
 use Rattle.state.specs.declared.event.Event.the-variants.{Poll, Sent}
 use Rattle.state.specs.declared.event.Reply.{Reply}
-use Rattle.association.proofs.Reached.{by-request}
+use Rattle.state.proofs.Refused.{by-request}
 use Rattle.order.specs.Order.{TaggedCall, after, EveryCall}
 use Rattle.client_rules.specs.Call.{Call, clearTable, openOne, closeOne, poll, sent, receive, loopVerdict, publish, Typed, Answer}
 use Rattle.client_rules.specs.Numbers.{encodeAll}
