@@ -1,6 +1,6 @@
 -- The number of missed polls and the server cookie of a poll, by how many polls were accepted since the last accepted response or the
 -- opening, W211-1 to W211-5. Assumes nothing.
-use mathlib.Core.Path.{_≡_, refl, _∙_}
+use mathlib.Core.Path.{_≡_, refl, ap, _∙_}
 use mathlib.Core.Bool.{Bool, cond, _&&_}
 use mathlib.Core.List.{List}
 use mathlib.Core.Option.{some}
@@ -40,4 +40,6 @@ counted-received r datagram o q =
 -- the cookie that a poll sends then
 pub counted-cookie : (interleaved : Bool) (o : Opened) {polls server : ℕ} → Counted o polls server
     → sentCookie interleaved o ≡ cond (interleaved && ltb (min 8 polls) 4) server 0
-counted-cookie interleaved o h = rw (h .counted, h .saved)
+counted-cookie interleaved o {polls} h =
+    ap (λ (n : ℕ). cond (interleaved && ltb n 4) (savedServer (o .saved)) 0) (h .counted)
+    ∙ ap (λ (k : ℕ). cond (interleaved && ltb (min 8 polls) 4) k 0) (h .saved)
