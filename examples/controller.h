@@ -11,7 +11,9 @@
 #include "ntp5.h"
 
 enum {
-    INTERLEAVED = 0x2,                 /* the header's flag */
+    EDITION = 7,                       /* of the draft, that both examples' controllers speak */
+    INTERLEAVED = 0x2,                 /* the header's flag in that edition */
+    TAI_UTC = 37,                      /* seconds; only edition 1 sends it */
     SOURCE = 0,                        /* the association for the other controller; a real client has up to sixteen */
     CHUNK = 128,                       /* filter octets in each answer */
     PASS = NTP5_FILTER_OCTETS / CHUNK, /* polls in which every chunk of the other's filter comes once */
@@ -22,6 +24,7 @@ enum {
 typedef struct {
     const char *name;
     const char *other;                   /* the controller that it polls */
+    uint8_t edition;                     /* of the draft, in which it serves */
     uint8_t id[NTP5_ID_OCTETS];          /* drawn at random once, at start */
     uint64_t table[TABLE];               /* as a client; only the first ntp5_table_words() numbers are lent */
     uint8_t store[STORE];                /* as a server: transmit times of its answers */
@@ -80,18 +83,23 @@ static inline void start(controller *c)
     EXPECT(size <= TABLE);
     ACCEPTED(ntp5_clear(c->table, size));
     ACCEPTED(ntp5_store_clear(c->store, sizeof c->store));
-    ACCEPTED(ntp5_open(c->table, size, SOURCE, 0, CHUNK));
+    ACCEPTED(ntp5_open(c->table, size, SOURCE, EDITION, 0, CHUNK));
     follow(c, 0);
 }
 
-/* Whether the other follows this controller, as far as the chunks say that have come. */
-static inline uint8_t look_for_loop(const controller *c)
+/* Whether a server follows this controller, as far as the chunks say that have come. */
+static inline uint8_t verdict_on(const controller *c, uint8_t association, const char *name)
 {
     static const char *const says[] = {"?", "incomplete", "loop", "clear"};
-    ntp5_verdict v = ntp5_loop_verdict(c->table, ntp5_table_words(), SOURCE, c->id, sizeof c->id);
+    ntp5_verdict v = ntp5_loop_verdict(c->table, ntp5_table_words(), association, c->id, sizeof c->id);
     ACCEPTED(v.refusal);
-    printf("%s: verdict on %s: %s\n", c->name, c->other, says[v.verdict]);
+    printf("%s: verdict on %s: %s\n", c->name, name, says[v.verdict]);
     return v.verdict;
+}
+
+static inline uint8_t look_for_loop(const controller *c)
+{
+    return verdict_on(c, SOURCE, c->other);
 }
 
 /* The answer to a request that came at `came`, from a synchronized clock of stratum 2. */
@@ -99,8 +107,9 @@ static inline ntp5_written answer(controller *c, const uint8_t *request, size_t 
                                   uint8_t era, uint64_t fresh, uint8_t *out, size_t out_len)
 {
     static const uint8_t information[NTP5_INFORMATION_OCTETS] = {0x00, 0x10, 0x00, 0x00};
-    return ntp5_answer(c->store, sizeof c->store, request, request_len, came, estimate, fresh, 0, 2, 6, -20, 0, era, 0, 0, 0,
-                       c->filter, sizeof c->filter, information, sizeof information, out, out_len);
+    ntp5_server server = {.stratum = 2, .poll = 6, .precision = -20, .era = era, .timescale_offset = TAI_UTC};
+    return ntp5_answer(c->store, sizeof c->store, c->edition, request, request_len, came, estimate, fresh, server, c->filter,
+                       sizeof c->filter, information, sizeof information, out, out_len);
 }
 
 #endif

@@ -3,8 +3,9 @@
  * datagram goes from one buffer to the other, and the clocks are numbers. udp.c is the same over sockets.
  *
  * First each controller follows nobody, so that both verdicts are clear. For a while answers are lost, and interleaved mode
- * comes back by itself. Then each takes the other as its source and publishes the filter that says so. Once the new filter has
- * gone round, each finds its own ID in the other's filter: a loop.
+ * comes back by itself. The left one polls a third too, "old", from a rack that speaks edition 1 of the draft: it gives the time,
+ * but no filter. Then left and right take each other as their source and publish the filter that says so. Once the new filter
+ * has gone round, each finds its own ID in the other's filter: a loop.
  *
  * Prints what happens, and ends with 1 at the first thing that is not as expected.
  */
@@ -14,10 +15,16 @@
 #define MS UINT64_C(4294967)
 #define INTERVAL (64000 * MS) /* from poll to poll, 2^6 s */
 
+enum {
+    OLD_EDITION = 1, /* of the draft, that of December 2020 */
+    OLD = 1          /* the association for the server that speaks it */
+};
+
 typedef struct {
     controller own;
-    uint64_t ahead;  /* how far this clock is ahead of the true time, in timestamp units */
-    uint64_t cookie; /* the last cookie, see new_cookie */
+    uint8_t association; /* by which its clients know it */
+    uint64_t ahead;      /* how far this clock is ahead of the true time, in timestamp units */
+    uint64_t cookie;     /* the last cookie, see new_cookie */
 } simulated;
 
 /* The true time that the simulation has come to. Not 0, which would mean unknown. */
@@ -56,30 +63,32 @@ static size_t serve(simulated *server, const uint8_t *request, size_t request_le
     return w.length;
 }
 
-/* The client's part: a request goes out, and 1 ms later the server has it. */
-static size_t send_request(simulated *client, uint8_t *request, size_t room)
+/* The client's part: a request goes out, and 1 ms later the server has it. In edition 1 it is the header alone. */
+static size_t send_request(simulated *client, const simulated *server, uint8_t *request, size_t room)
 {
     uint64_t *table = client->own.table;
     size_t size = ntp5_table_words();
-    ntp5_written w = ntp5_poll(table, size, SOURCE, new_cookie(client), 6, true, request, room);
+    ntp5_written w = ntp5_poll(table, size, server->association, new_cookie(client), 6, true, request, room);
     ACCEPTED(w.refusal);
-    EXPECT(w.length == 84 + CHUNK);
-    ACCEPTED(ntp5_sent(table, size, SOURCE, clock_of(client)));
+    EXPECT(w.length == (server->own.edition == OLD_EDITION ? NTP5_HEADER_OCTETS : 84 + CHUNK));
+    ACCEPTED(ntp5_sent(table, size, server->association, clock_of(client)));
     now += MS;
     return w.length;
 }
 
-/* The client's part: the server's answer is here 1 ms after it left. */
-static ntp5_received take_answer(simulated *client, const uint8_t *response, size_t response_len)
+/* The client's part: the server's answer is here 1 ms after it left. In edition 1 no chunk comes with it. */
+static ntp5_received take_answer(simulated *client, const simulated *server, const uint8_t *response, size_t response_len)
 {
     uint64_t *table = client->own.table;
     size_t size = ntp5_table_words();
+    uint8_t from = server->association;
     now += MS;
-    ntp5_received r = ntp5_receive(table, size, SOURCE, response, response_len, clock_of(client));
+    ntp5_received r = ntp5_receive(table, size, from, response, response_len, clock_of(client));
     ACCEPTED(r.refusal);
-    EXPECT(r.judgement == NTP5_USABLE && r.chunk == NTP5_CHUNK_TAKEN);
+    EXPECT(r.judgement == NTP5_USABLE);
+    EXPECT(r.chunk == (server->own.edition == OLD_EDITION ? NTP5_CHUNK_ABSENT : NTP5_CHUNK_TAKEN));
     /* The network may deliver a datagram twice. The request is used up, so that the second copy is refused. */
-    EXPECT(ntp5_receive(table, size, SOURCE, response, response_len, clock_of(client)).refusal == NTP5_NOT_ASKED);
+    EXPECT(ntp5_receive(table, size, from, response, response_len, clock_of(client)).refusal == NTP5_NOT_ASKED);
     return r;
 }
 
@@ -88,9 +97,9 @@ static ntp5_received ask(simulated *client, simulated *server)
 {
     uint8_t request[NTP5_DATAGRAM_AT_MOST];
     uint8_t response[NTP5_DATAGRAM_AT_MOST];
-    size_t n = send_request(client, request, sizeof request);
+    size_t n = send_request(client, server, request, sizeof request);
     EXPECT(serve(server, request, n, response, sizeof response) == n);
-    return take_answer(client, response, n);
+    return take_answer(client, server, response, n);
 }
 
 /* Out and back take 1 ms each, and an interleaved measurement is exact. */
@@ -126,7 +135,7 @@ static void ask_for_filter(simulated *client, simulated *server, uint8_t before,
 /* The server cookie of a request, which wants interleaved mode as each one here does. */
 static uint64_t server_cookie(const uint8_t *request, size_t request_len)
 {
-    ntp5_read r = ntp5_header_read(request, request_len, NTP5_REQUEST);
+    ntp5_read r = ntp5_header_read(EDITION, request, request_len, NTP5_REQUEST);
     ACCEPTED(r.refusal);
     EXPECT((r.header.flags & INTERLEAVED) != 0);
     return r.header.server_cookie;
@@ -143,16 +152,16 @@ static void lose_answers(simulated *client, simulated *server)
     uint8_t response[NTP5_DATAGRAM_AT_MOST];
     size_t n;
     for (int i = 1; i <= 4; i++) {
-        n = send_request(client, request, sizeof request);
+        n = send_request(client, server, request, sizeof request);
         EXPECT(server_cookie(request, n) != 0);
         EXPECT(serve(server, request, n, response, sizeof response) == n);
         printf("%s: the answer to poll %d is lost\n", client->own.name, i);
         now += INTERVAL;
     }
-    n = send_request(client, request, sizeof request);
+    n = send_request(client, server, request, sizeof request);
     EXPECT(server_cookie(request, n) == 0);
     EXPECT(serve(server, request, n, response, sizeof response) == n);
-    ntp5_received r = take_answer(client, response, n);
+    ntp5_received r = take_answer(client, server, response, n);
     EXPECT(!exact(client, server, r));
     printf("%s: poll 5, with server cookie 0: ", client->own.name);
     note(client, server, r);
@@ -164,16 +173,57 @@ static void lose_answers(simulated *client, simulated *server)
     now += INTERVAL;
 }
 
+/*
+ * A mixed rack: the client's table has a server of edition 1 beside that of edition 7. Its time is measured like any other's,
+ * interleaved too. But no filter comes, so that nothing is known of whom it follows and nothing of it can be published: whether
+ * to follow it all the same is the caller's decision. A loop is seen only through servers of edition 7. The timescale offset,
+ * which that edition has, is read from the header.
+ */
+static void ask_old_rack(simulated *client, simulated *server)
+{
+    uint8_t request[NTP5_DATAGRAM_AT_MOST];
+    uint8_t response[NTP5_DATAGRAM_AT_MOST];
+    size_t size = ntp5_table_words();
+    ACCEPTED(ntp5_open(client->own.table, size, OLD, OLD_EDITION, 0, CHUNK)); /* a chunk size is named, though none is asked for */
+    for (int i = 1; i <= PASS; i++) {
+        size_t n = send_request(client, server, request, sizeof request);
+        EXPECT(serve(server, request, n, response, sizeof response) == n);
+        ntp5_read reading = ntp5_header_read(OLD_EDITION, response, n, NTP5_RESPONSE);
+        ACCEPTED(reading.refusal);
+        EXPECT(reading.header.timescale_offset == TAI_UTC);
+        ntp5_received r = take_answer(client, server, response, n);
+        EXPECT(i == 1 || exact(client, server, r)); /* from the second answer on they are interleaved */
+        printf("%s: poll %d in edition 1, no chunk, TAI - UTC is %d s: ", client->own.name, i, reading.header.timescale_offset);
+        note(client, server, r);
+        now += INTERVAL;
+    }
+    EXPECT(verdict_on(&client->own, OLD, server->own.name) == NTP5_VERDICT_INCOMPLETE);
+    ntp5_written w = ntp5_publish(client->own.table, size, 1u << OLD, client->own.id, sizeof client->own.id, client->own.filter,
+                                  sizeof client->own.filter);
+    EXPECT(w.refusal == NTP5_BAD_STATE);
+    printf("%s: a filter with %s in it is not published: %u\n", client->own.name, server->own.name, w.refusal);
+}
+
 static simulated left = {.own.name = "left",
                          .own.other = "right",
+                         .own.edition = EDITION,
+                         .association = SOURCE,
                          .own.id = {0x3A, 0x91, 0x07, 0xC4, 0x5E, 0xF2, 0x18, 0xB6, 0x6D, 0x80, 0x2B, 0xE5, 0x49, 0x73, 0xDA},
                          .ahead = 0,
                          .cookie = 1};
 static simulated right = {.own.name = "right",
                           .own.other = "left",
+                          .own.edition = EDITION,
+                          .association = SOURCE,
                           .own.id = {0x84, 0x2F, 0xD9, 0x13, 0xA7, 0x60, 0xCB, 0x35, 0x9E, 0x51, 0xF8, 0x0C, 0xB2, 0x46, 0x7D},
                           .ahead = 5 * MS,
                           .cookie = 2};
+static simulated old = {.own.name = "old",
+                        .own.edition = OLD_EDITION,
+                        .association = OLD,
+                        .own.id = {0x1D, 0xC8, 0x52, 0xEE, 0x07, 0x93, 0x6A, 0xB1, 0x4F, 0x20, 0xD5, 0x78, 0x3C, 0x86, 0x09},
+                        .ahead = 3 * MS,
+                        .cookie = 3};
 
 /* Before the whole filter has come nothing is known, and an incomplete filter is never published. */
 static void ask_for_first_filters(void)
@@ -189,8 +239,10 @@ int main(void)
 {
     start(&left.own);
     start(&right.own);
+    start(&old.own);
     ask_for_first_filters();
     lose_answers(&left, &right);
+    ask_old_rack(&left, &old);
 
     /* Each believes that the other is a good source. */
     follow(&left.own, 1u << SOURCE);
@@ -207,6 +259,7 @@ int main(void)
     EXPECT(look_for_loop(&right.own) == NTP5_VERDICT_CLEAR);
     ask_for_filter(&left, &right, NTP5_VERDICT_CLEAR, NTP5_VERDICT_LOOP);
     ask_for_filter(&right, &left, NTP5_VERDICT_CLEAR, NTP5_VERDICT_LOOP);
+    EXPECT(verdict_on(&left.own, OLD, old.own.name) == NTP5_VERDICT_INCOMPLETE);
 
     /* A source whose clock died may be half an era off, 2^31 s: is it ahead or behind? Such a measurement steers no clock. */
     uint64_t half_era = (uint64_t)1 << 63;

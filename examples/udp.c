@@ -125,7 +125,7 @@ static void hear(endpoint *e)
                late ? "no request waits for them" : "and the request still waits");
         return;
     }
-    ntp5_read reading = ntp5_header_read(d.octets, d.length, NTP5_RESPONSE);
+    ntp5_read reading = ntp5_header_read(EDITION, d.octets, d.length, NTP5_RESPONSE);
     ACCEPTED(reading.refusal);
     note(e, r, (reading.header.flags & INTERLEAVED) != 0);
 }
@@ -230,7 +230,8 @@ static void close_sockets(const endpoint *e)
 
 int main(void)
 {
-    static endpoint left = {.own.name = "left", .own.other = "right"}, right = {.own.name = "right", .own.other = "left"};
+    static endpoint left = {.own.name = "left", .own.other = "right", .own.edition = EDITION};
+    static endpoint right = {.own.name = "right", .own.other = "left", .own.edition = EDITION};
     int pair[2], status;
     setvbuf(stdout, NULL, _IOLBF, 0); /* both processes print whole lines */
     deadline = milliseconds() + END_WITHIN;

@@ -1,6 +1,6 @@
 /*
- * An NTPv5 time unit (draft-mlichvar-ntp-ntpv5-07) for a main loop in C: a client of up to sixteen servers, a responder with
- * interleaved mode, and reference-ID filters that show when a controller follows its own clock. Link with libntp5.a.
+ * An NTPv5 time unit (draft-mlichvar-ntp-ntpv5-07, and -01 beside it) for a main loop in C: a client of up to sixteen servers, a
+ * responder with interleaved mode, and reference-ID filters that show when a controller follows its own clock. Link with libntp5.a.
  *
  * TARGET: x86-64 Linux, the one target of the Rattle kit's compiler. The proofs are of the source, and the kit's prover also
  * runs on Arm; an archive for another processor needs the kit's back end for it. What linker and caller meet:
@@ -27,6 +27,16 @@
  *   6, 7, 1, 2, 3, then 4 and 5 field by field, 13, 9, 10, 8, 11, 12.
  * docs/RULES.md has every rule of the calls, numbered.
  *
+ * EDITIONS. Two editions of the draft are spoken: 7, that of March 2023 (draft-mlichvar-ntp-ntpv5-07), and 1, that of December
+ * 2020 (draft-mlichvar-ntp-ntpv5-01). Opening an association, answering a request, and reading and writing a header name one; any
+ * other number is refused with 6. A table may hold associations of both. A datagram does not say its edition: the caller knows
+ * it of each server and of each client. In edition 1
+ *   - the header has a timescale offset, four bits each for timescale and stratum and eight for the flags; flag 0x4 says
+ *     interleaved, in edition 7 it is 0x2;
+ *   - a poll is the header alone, and every field is unknown: none of a response is used, none of a request is answered;
+ *   - so no filter comes. A loop through such a server is not seen: its loop verdict stays incomplete, and publishing it is
+ *     refused with 7. Time is measured as in edition 7. Whether it may be followed is the caller's decision.
+ *
  * COOKIES ARE NEVER USED TWICE. The caller draws every client cookie and every server cookie at random and never gives one
  * a second time. The library refuses only the repeats that it can see, and with an older cookie given again a late
  * duplicate of an old datagram can pass as an answer.
@@ -44,10 +54,10 @@
  * The interface's version. The first number changes where a caller has to change, the second where something was added; the
  * README lists what changed.
  */
-#define NTP5_VERSION_MAJOR 3
-#define NTP5_VERSION_MINOR 1
+#define NTP5_VERSION_MAJOR 4
+#define NTP5_VERSION_MINOR 0
 #define NTP5_VERSION_PATCH 0
-#define NTP5_VERSION "3.1.0"
+#define NTP5_VERSION "4.0.0"
 
 #ifdef __cplusplus
 extern "C" {
@@ -87,13 +97,13 @@ enum {
 /* What became of an accepted response's filter chunk. */
 enum {
     NTP5_CHUNK_TAKEN = 1,
-    NTP5_CHUNK_ABSENT = 2,    /* no filter response: measured, the filter stays as it was */
+    NTP5_CHUNK_ABSENT = 2,    /* no filter response, or edition 1: measured, the filter stays as it was */
     NTP5_CHUNK_OTHER_SIZE = 3 /* not the size that was asked: measured, the filter stays as it was */
 };
 
 /* Loop verdicts. */
 enum {
-    NTP5_VERDICT_INCOMPLETE = 1, /* some filter octets were not received since opening: nothing can be said */
+    NTP5_VERDICT_INCOMPLETE = 1, /* some filter octets were not received since opening, in edition 1 none: nothing can be said */
     NTP5_VERDICT_LOOP = 2,       /* all ten positions of the ID are set: the server follows that ID */
     NTP5_VERDICT_CLEAR = 3       /* not all are set, as of the last pass: see ntp5_loop_verdict on its age */
 };
@@ -145,12 +155,30 @@ typedef struct {
     uint16_t weight;
 } ntp5_weight;
 
-/* A header's fields. The version is not among them: it is always 5. */
+/*
+ * What a server says of its clock, and a header's fields; the version is not among them: it is always 5. Edition 1 has room for
+ * a timescale and a stratum up to 15 and for flags up to 255, and writing more is refused with 6.
+ *   flags               0x1 unknown leap; interleaved is 0x4 in edition 1 and 0x2 in edition 7; other bits are kept
+ *   timescale_offset    only edition 1 sends it; in edition 7 it is read as 0 and not looked at when writing. What it means is the
+ *                       timescale's: in 0 (UTC) and 1 (TAI) TAI - UTC in seconds; in 2 (UT1) UT1 - UTC, and in 3 (leap-smeared
+ *                       UTC) the offset between the smeared time and UTC, both in units of 2^-15 s; -32768, that is 0x8000, if
+ *                       it is unknown. The library passes it on and measures without it.
+ */
+typedef struct {
+    uint8_t leap, stratum;
+    int8_t poll, precision;
+    uint8_t timescale, era;
+    int16_t timescale_offset;
+    uint16_t flags;
+    uint32_t root_delay, root_dispersion;
+} ntp5_server;
+
 typedef struct {
     uint8_t leap, mode, stratum;
     int8_t poll, precision;
     uint8_t timescale, era;
-    uint16_t flags; /* 0x1 unknown leap, 0x2 interleaved; other bits are kept */
+    int16_t timescale_offset;
+    uint16_t flags;
     uint32_t root_delay, root_dispersion;
     uint64_t server_cookie, client_cookie, receive, transmit;
 } ntp5_header;
@@ -179,18 +207,19 @@ size_t ntp5_table_words(void);
 uint8_t ntp5_clear(uint64_t *table, size_t table_len);
 
 /*
- * Opens an association for a server of this timescale, with an empty filter that will be asked for in chunks of 16, 32, 64,
- * 128, 256 or 512 octets. Refuses: 6 (also another chunk size), 7 if it is open already.
+ * Opens an association for a server of this edition, 1 or 7, and this timescale, with an empty filter that will be asked for in
+ * chunks of 16, 32, 64, 128, 256 or 512 octets. In edition 1 none is asked for, and one of these sizes is named all the same.
+ * Refuses: 6 (also another edition, in edition 1 a timescale above 15, and another chunk size), 7 if it is open already.
  */
-uint8_t ntp5_open(uint64_t *table, size_t table_len, uint8_t association, uint8_t timescale, uint16_t chunk);
+uint8_t ntp5_open(uint64_t *table, size_t table_len, uint8_t association, uint8_t edition, uint8_t timescale, uint16_t chunk);
 
 /* Closes an association and forgets all of it. Refuses: 6, 7 if it is not open. */
 uint8_t ntp5_close(uint64_t *table, size_t table_len, uint8_t association);
 
 /*
- * Writes the next request to `out`: 84 octets and the chunk size. It becomes the outstanding request, and an older one is
- * dropped: its answer will be refused with 9. `client_cookie` is one never used before, `poll` the poll exponent that is
- * sent, `interleaved` whether an interleaved answer is wanted.
+ * Writes the next request to `out`: in edition 7 84 octets and the chunk size, in edition 1 48. It becomes the outstanding
+ * request, and an older one is dropped: its answer will be refused with 9. `client_cookie` is one never used before, `poll` the
+ * poll exponent that is sent, `interleaved` whether an interleaved answer is wanted.
  * A poll that replaces a request without an answer counts it as missed; an accepted response and opening set the count back.
  * With four or more missed, server cookie 0 is sent though an interleaved answer is wanted: the server answers in basic mode
  * with a fresh cookie, and the poll after that answer asks for an interleaved one again. The count, at most 8, is in no
@@ -207,10 +236,11 @@ ntp5_written ntp5_poll(uint64_t *table, size_t table_len, uint8_t association, u
 uint8_t ntp5_sent(uint64_t *table, size_t table_len, uint8_t association, uint64_t t1);
 
 /*
- * Takes a datagram that came from the association's server at T4. `datagram` is only read. If it is accepted, the request is
- * used up, so that a second copy is refused with 9; the filter chunk is taken, whatever the judgement, and the exchange
- * is measured if it is usable. AN INTERLEAVED RESPONSE MEASURES THE EXCHANGE BEFORE IT: what the clock was corrected by since
- * then is not in its offset; and after a step of the clock poll without interleaved until a response was accepted.
+ * Takes a datagram that came from the association's server at T4, and reads it in the association's edition. `datagram` is only
+ * read. If it is accepted, the request is used up, so that a second copy is refused with 9; the filter chunk is taken, whatever
+ * the judgement (in edition 1 it is always absent), and the exchange is measured if it is usable. AN INTERLEAVED RESPONSE
+ * MEASURES THE EXCHANGE BEFORE IT: what the clock was corrected by since then is not in its offset; and after a step of the clock
+ * poll without interleaved until a response was accepted.
  * A buffer to receive into has room for more than NTP5_DATAGRAM_AT_MOST octets, so that a longer
  * datagram is refused and not cut to a right length; the same holds for ntp5_answer.
  * Refuses: 6 (also T4 of 0), 7 if not open, 1 to 5, 13, 9 if it does not answer the outstanding request, 10.
@@ -220,7 +250,8 @@ ntp5_received ntp5_receive(uint64_t *table, size_t table_len, uint8_t associatio
 
 /*
  * Whether the association's server follows, itself or through others, the controller with this ID of 15 octets: ask it with
- * the own ID. A filter can say loop for an ID that was never added, but never clear for one that was. Only reads.
+ * the own ID. A filter can say loop for an ID that was never added, but never clear for one that was. Of a server of edition 1
+ * nothing can be said: incomplete. Only reads.
  *
  * A VERDICT HAS AN AGE. A filter comes in chunks of c octets, 512/c of them in a pass, and once complete it stays complete:
  * each chunk is as it was served when it was last taken. A server that begins to follow this ID is still "clear" until the
@@ -242,7 +273,8 @@ ntp5_verdict ntp5_loop_verdict(const uint64_t *table, size_t table_len, uint8_t 
  * What is written has the age of the selected filters (see ntp5_loop_verdict), and the clients that are served from it see no
  * more than it holds: publish again after every taken chunk of a selected association and at every change of the selection.
  * In a loop through several controllers each one adds up to a pass of its own, and the time until it publishes again.
- * Refuses: 6 (also an ID of another size), 7 if a selected one is not open or its filter is not complete, 11.
+ * Refuses: 6 (also an ID of another size), 7 if a selected one is not open or its filter is not complete, as one of edition 1
+ * never is, 11.
  */
 ntp5_written ntp5_publish(const uint64_t *table, size_t table_len, uint16_t selected, const uint8_t *id, size_t id_len,
                           uint8_t *out, size_t out_len);
@@ -266,35 +298,43 @@ uint8_t ntp5_report(uint8_t *store, size_t store_len, uint64_t server_cookie, ui
 
 /*
  * Writes the answer to a request to `out`: as many octets as the request has. Only `store` and `out` change.
+ *   edition         of the draft, 1 or 7, in which the request is read and the answer written: that of the client
  *   receive_time    when the request came
  *   estimate        when the answer will leave, as well as that is known
  *   fresh_cookie    a server cookie never used before; looked at only if the request wants an interleaved answer, and
  *                   then the answer carries it and ntp5_report is called with it once the answer has left
- *   leap to root_dispersion   what the server says of its clock; flag 0x2 is set by the call and not taken from `flags`
- *   filter          what ntp5_publish wrote, 512 octets
- *   information     the data of the server information field, 4 octets: version 5 alone is 00 10 00 00
+ *   server          what the server says of its clock; the edition's flag for interleaved is set by the call and not taken from
+ *                   `server.flags`, and `server.timescale_offset` is sent in edition 1 only
+ *   filter          what ntp5_publish wrote, 512 octets, also in edition 1, which sends none of it
+ *   information     the data of the server information field, 4 octets, also in edition 1: version 5 alone is 00 10 00 00
  * An answer is interleaved if the request wants that and its server cookie is in the store with a reported time; that record
- * then leaves the store, so that a saved time is sent once only.
- * Refuses: 6 (also a leap above 3, a filter or information of another size, a time of 0), 1 to 5, 13, 8 if a fresh cookie is
- * needed and is 0 or in the store, 11.
+ * then leaves the store, so that a saved time is sent once only. In edition 1 the answer is the header and, if the request has
+ * fields, one padding field in their place.
+ * Refuses: 6 (also another edition, a leap above 3, in edition 1 a timescale or stratum above 15 or flags above 255, a filter or
+ * information of another size, a time of 0), 1 to 5, 13, 8 if a fresh cookie is needed and is 0 or in the store, 11.
  */
-ntp5_written ntp5_answer(uint8_t *store, size_t store_len, const uint8_t *request, size_t request_len,
-                         uint64_t receive_time, uint64_t estimate, uint64_t fresh_cookie, uint8_t leap, uint8_t stratum,
-                         int8_t poll, int8_t precision, uint8_t timescale, uint8_t era, uint16_t flags,
-                         uint32_t root_delay, uint32_t root_dispersion, const uint8_t *filter, size_t filter_len,
-                         const uint8_t *information, size_t information_len, uint8_t *out, size_t out_len);
+ntp5_written ntp5_answer(uint8_t *store, size_t store_len, uint8_t edition, const uint8_t *request, size_t request_len,
+                         uint64_t receive_time, uint64_t estimate, uint64_t fresh_cookie, ntp5_server server,
+                         const uint8_t *filter, size_t filter_len, const uint8_t *information, size_t information_len,
+                         uint8_t *out, size_t out_len);
 
 /*
  * SINGLE DATAGRAMS
  */
 
-/* Reads the header of a datagram; the fields after it are not looked at. In a refusal all is 0. Refuses: 1, 2, 3. */
-ntp5_read ntp5_header_read(const uint8_t *datagram, size_t datagram_len, uint8_t wanted_mode);
+/*
+ * Reads the header of a datagram in this edition, 1 or 7; the fields after it are not looked at. In a refusal all is 0.
+ * Refuses: 6 for another edition, 1, 2, 3.
+ */
+ntp5_read ntp5_header_read(uint8_t edition, const uint8_t *datagram, size_t datagram_len, uint8_t wanted_mode);
 
-/* Writes a header to the first 48 octets of `out`. Refuses: 6 for a leap above 3 or a mode other than 3 and 4, 11. */
-uint8_t ntp5_header_write(ntp5_header header, uint8_t *out, size_t out_len);
+/*
+ * Writes a header in this edition, 1 or 7, to the first 48 octets of `out`. Refuses: 6 for another edition, a leap above 3, a mode
+ * other than 3 and 4, in edition 1 also a timescale or stratum above 15 or flags above 255; 11.
+ */
+uint8_t ntp5_header_write(uint8_t edition, ntp5_header header, uint8_t *out, size_t out_len);
 
-/* Whether a datagram's header and fields are sound. A MAC is not verified. Only reads. Refuses: 1 to 5, 13. */
+/* Whether a datagram's header and fields are sound, in either edition. A MAC is not verified. Only reads. Refuses: 1 to 5, 13. */
 uint8_t ntp5_sound(const uint8_t *datagram, size_t datagram_len, uint8_t wanted_mode);
 
 /*

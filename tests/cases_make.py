@@ -5,8 +5,8 @@ usage: cases_make.py > crates/cases/stdin
        cases_model.py < crates/cases/stdin > crates/cases/stdout
 
 First the cases that a person chose, by subject, then random ones from a fixed seed, then the client table's and the
-responder's, which are in client_make.py, half_era_make.py, responder_make.py, mac_make.py and missed_make.py. Running it
-again gives the same file.
+responder's, which are in client_make.py, half_era_make.py, responder_make.py, mac_make.py and missed_make.py, all of edition
+7; then those of edition 1 and of both, in edition_make.py and edition_answer_make.py. Running it again gives the same file.
 """
 import random
 import sys
@@ -14,6 +14,8 @@ import sys
 sys.dont_write_bytecode = True      # no generated folder beside the sources
 from cases_model import text_of     # noqa: E402
 from client_make import client_lines    # noqa: E402
+from edition_answer_make import edition_answer_lines    # noqa: E402
+from edition_make import edition_lines  # noqa: E402
 from half_era_make import half_era_lines    # noqa: E402
 from mac_make import mac_lines  # noqa: E402
 from missed_make import missed_lines    # noqa: E402
@@ -26,12 +28,12 @@ OPENING = """\
 # Cases for the program `cases`; docs/CASES.md has the format. Written by tests/cases_make.py.
 
 # M1: octet 0 of a request, of a response, and of a response with leap 3
-header 3 2b00*47
-header 4 2c00*47
-header 4 ec00*47
-write 0 3 0 0 0 0 0 0 0 0 0 0 0 0 00*48
-write 0 4 0 0 0 0 0 0 0 0 0 0 0 0 00*48
-write 3 4 0 0 0 0 0 0 0 0 0 0 0 0 00*48
+header 7 3 2b00*47
+header 7 4 2c00*47
+header 7 4 ec00*47
+write 7 0 3 0 0 0 0 0 0 0 0 0 0 0 0 0 00*48
+write 7 0 4 0 0 0 0 0 0 0 0 0 0 0 0 0 00*48
+write 7 3 4 0 0 0 0 0 0 0 0 0 0 0 0 0 00*48
 
 # M2: lengths
 sound 3 2b00*46
@@ -70,20 +72,20 @@ sound 3 2b00*47,f503000c,01fc0000,00*4
 
 # The whole first poll, M-13
 sound 3 2b000600*21,0102030405060708,00*16,f5ff001f,64726166742d6d6c6963687661722d6e74702d6e747076352d3037,00,f5030014,00*16
-header 3 2b000600*21,0102030405060708,00*16,f5ff001f,64726166742d6d6c6963687661722d6e74702d6e747076352d3037,00,f5030014,00*16
+header 7 3 2b000600*21,0102030405060708,00*16,f5ff001f,64726166742d6d6c6963687661722d6e74702d6e747076352d3037,00,f5030014,00*16
 
 # Refusals 1, 2 and 3 are given in this order
-header 3 -
-header 3 0000
-header 3 0000*47
-header 3 2b00*46
-header 4 2300*47
-header 4 2b00*47
-header 3 2c00*47
-header 0 2b00*47
-header 255 2b00*47
-header 0 2800*47
-header 7 2f00*47
+header 7 3 -
+header 7 3 0000
+header 7 3 0000*47
+header 7 3 2b00*46
+header 7 4 2300*47
+header 7 4 2b00*47
+header 7 3 2c00*47
+header 7 0 2b00*47
+header 7 255 2b00*47
+header 7 0 2800*47
+header 7 7 2f00*47
 sound 4 2300*46
 sound 4 2300*47
 sound 4 2b00*47
@@ -91,8 +93,8 @@ sound 0 2800*47
 sound 3 2c00*47,f5010003
 
 # The header's fields are read whatever the chain is
-header 3 2b00*47,f5010003
-header 4 2c00*47,00*4
+header 7 3 2b00*47,f5010003
+header 7 4 2c00*47,00*4
 
 # Refusals 4 and 5: 4 before 5 within a field, the first field in error decides, and unknown fields count
 sound 3 2b00*47,f5010000
@@ -117,27 +119,27 @@ sound 4 2c00*47,f5040014,aa*16
 sound 4 2c00*47,f5040014,aa*12
 
 # Reading every field at its extremes
-header 4 ec,ff*47
-header 4 6c,0f,80,80,03,ff,ffff,00*8,80,00*7,00*7,01,7f,ff*7,80,00*7
-header 4 2c,01,7f,7f,00,01,8001,7f,ff*3,80,00*3,01,00*7,ff,00*7,00*8,00*7,01
-header 3 ab,10,06,ee,02,00,0003,00,00*2,01,00*3,10,0123456789abcdef,fedcba9876543210,0011223344556677,8899aabbccddeeff
+header 7 4 ec,ff*47
+header 7 4 6c,0f,80,80,03,ff,ffff,00*8,80,00*7,00*7,01,7f,ff*7,80,00*7
+header 7 4 2c,01,7f,7f,00,01,8001,7f,ff*3,80,00*3,01,00*7,ff,00*7,00*8,00*7,01
+header 7 3 ab,10,06,ee,02,00,0003,00,00*2,01,00*3,10,0123456789abcdef,fedcba9876543210,0011223344556677,8899aabbccddeeff
 
 # Writing: every field at its extremes, octets past 48 stay, refusals 6 before 11, and nothing changes on a refusal
-write 3 4 255 127 127 255 255 65535 4294967295 4294967295 18446744073709551615 18446744073709551615 18446744073709551615 18446744073709551615 aa*52
-write 3 3 255 -128 -128 255 255 0xffff 0xffffffff 0xffffffff 0xffffffffffffffff 0xffffffffffffffff 0xffffffffffffffff 0xffffffffffffffff aa*48
-write 1 3 1 -1 -20 1 1 2 1 1 1 1 1 1 00*100
-write 2 4 15 6 -0x12 3 0 1 0x10000000 0x8000 0x0123456789abcdef 0xfedcba9876543210 0xe8000000 0xe800000080000000 ff*64
-write 0 3 0 6 0 0 0 0 0 0 0 0x0102030405060708 0 0 00*100
-write 4 3 0 0 0 0 0 0 0 0 0 0 0 0 aa*48
-write 255 4 0 0 0 0 0 0 0 0 0 0 0 0 aa*48
-write 0 0 0 0 0 0 0 0 0 0 0 0 0 0 aa*48
-write 0 2 0 0 0 0 0 0 0 0 0 0 0 0 aa*48
-write 0 5 0 0 0 0 0 0 0 0 0 0 0 0 aa*48
-write 0 255 0 0 0 0 0 0 0 0 0 0 0 0 aa*48
-write 0 3 1 2 3 4 5 6 7 8 9 10 11 12 aa*47
-write 0 4 1 2 3 4 5 6 7 8 9 10 11 12 -
-write 4 4 1 2 3 4 5 6 7 8 9 10 11 12 aa*47
-write 0 5 1 2 3 4 5 6 7 8 9 10 11 12 -
+write 7 3 4 255 127 127 255 255 65535 4294967295 4294967295 18446744073709551615 18446744073709551615 18446744073709551615 18446744073709551615 0 aa*52
+write 7 3 3 255 -128 -128 255 255 0xffff 0xffffffff 0xffffffff 0xffffffffffffffff 0xffffffffffffffff 0xffffffffffffffff 0xffffffffffffffff 0 aa*48
+write 7 1 3 1 -1 -20 1 1 2 1 1 1 1 1 1 0 00*100
+write 7 2 4 15 6 -0x12 3 0 1 0x10000000 0x8000 0x0123456789abcdef 0xfedcba9876543210 0xe8000000 0xe800000080000000 0 ff*64
+write 7 0 3 0 6 0 0 0 0 0 0 0 0x0102030405060708 0 0 0 00*100
+write 7 4 3 0 0 0 0 0 0 0 0 0 0 0 0 0 aa*48
+write 7 255 4 0 0 0 0 0 0 0 0 0 0 0 0 0 aa*48
+write 7 0 0 0 0 0 0 0 0 0 0 0 0 0 0 0 aa*48
+write 7 0 2 0 0 0 0 0 0 0 0 0 0 0 0 0 aa*48
+write 7 0 5 0 0 0 0 0 0 0 0 0 0 0 0 0 aa*48
+write 7 0 255 0 0 0 0 0 0 0 0 0 0 0 0 0 aa*48
+write 7 0 3 1 2 3 4 5 6 7 8 9 10 11 12 0 aa*47
+write 7 0 4 1 2 3 4 5 6 7 8 9 10 11 12 0 -
+write 7 4 4 1 2 3 4 5 6 7 8 9 10 11 12 0 aa*47
+write 7 0 5 1 2 3 4 5 6 7 8 9 10 11 12 0 -
 
 # Filters: sizes, repeated positions, adding twice, and unions
 add 00*511 00*15
@@ -210,23 +212,23 @@ soun 3 2b00*47
 0
 -
 header
-header 3
-header x 2b00*47
-header 3 2b00*47 4
-header 256 2b00*47
-header -1 2b00*47
-header 18446744073709551616 2b00*47
-header 0x10 2b00*47
-header 0x 2b00*47
-header 0x0x3 2b00*47
-header 3x 2b00*47
-header 0X3 2b00*47
-header 03 2b00*47
-header 0x0000000000000000000003 2b00*47
-header 99999999999999999999999999x 2b00*47
-header 99999999999999999999999999 2b00*47
-header 300 zz
-header 3 zz
+header 7 3
+header 7 x 2b00*47
+header 7 3 2b00*47 4
+header 7 256 2b00*47
+header 7 -1 2b00*47
+header 7 18446744073709551616 2b00*47
+header 7 0x10 2b00*47
+header 7 0x 2b00*47
+header 7 0x0x3 2b00*47
+header 7 3x 2b00*47
+header 7 0X3 2b00*47
+header 7 03 2b00*47
+header 7 0x0000000000000000000003 2b00*47
+header 7 99999999999999999999999999x 2b00*47
+header 7 99999999999999999999999999 2b00*47
+header 7 300 zz
+header 7 3 zz
 sound
 sound 3 2
 sound 3 2b0
@@ -259,26 +261,26 @@ sound 3 2b00*47# and with no space before it
 \tsound\t3  2b00*47\t
 sound 3 2b00*47\r
 write
-write 0 3 0 0 0 0 0 0 0 0 0 0 0 0
-write 0 3 0 0 0 0 0 0 0 0 0 0 0
-write 0 3 0 0 0 0 0 0 0 0 0 0 0 0 00*48 0
-write 256 3 0 0 0 0 0 0 0 0 0 0 0 0 00*48
-write 0 3 0 128 0 0 0 0 0 0 0 0 0 0 00*48
-write 0 3 0 -129 0 0 0 0 0 0 0 0 0 0 00*48
-write 0 3 0 -0 -0x0 0 0 0 0 0 0 0 0 0 00*48
-write 0 3 0 - 0 0 0 0 0 0 0 0 0 0 00*48
-write 0 3 0 --1 0 0 0 0 0 0 0 0 0 0 00*48
-write 0 3 0 0 0x80 0 0 0 0 0 0 0 0 0 00*48
-write 0 3 0 0 -0x80 0 0 0 0 0 0 0 0 0 00*48
-write 0 3 0 0 0 256 0 0 0 0 0 0 0 0 00*48
-write 0 3 0 0 0 0 -1 0 0 0 0 0 0 0 00*48
-write 0 3 0 0 0 0 0 65536 0 0 0 0 0 0 00*48
-write 0 3 0 0 0 0 0 0 4294967296 0 0 0 0 0 00*48
-write 0 3 0 0 0 0 0 0 0 0x100000000 0 0 0 0 00*48
-write 0 3 0 0 0 0 0 0 0 0 18446744073709551616 0 0 0 00*48
-write 0 3 0 0 0 0 0 0 0 0 0 0x10000000000000000 0 0 00*48
-write 0 3 0 0 0 0 0 0 0 0 0 0 0 a 00*48
-write 0 3 0 0 0 0 0 0 0 0 0 0 0 0 0
+write 7 0 3 0 0 0 0 0 0 0 0 0 0 0 0 0
+write 7 0 3 0 0 0 0 0 0 0 0 0 0 0
+write 7 0 3 0 0 0 0 0 0 0 0 0 0 0 0 0 00*48 0
+write 7 256 3 0 0 0 0 0 0 0 0 0 0 0 0 0 00*48
+write 7 0 3 0 128 0 0 0 0 0 0 0 0 0 0 0 00*48
+write 7 0 3 0 -129 0 0 0 0 0 0 0 0 0 0 0 00*48
+write 7 0 3 0 -0 -0x0 0 0 0 0 0 0 0 0 0 0 00*48
+write 7 0 3 0 - 0 0 0 0 0 0 0 0 0 0 0 00*48
+write 7 0 3 0 --1 0 0 0 0 0 0 0 0 0 0 0 00*48
+write 7 0 3 0 0 0x80 0 0 0 0 0 0 0 0 0 0 00*48
+write 7 0 3 0 0 -0x80 0 0 0 0 0 0 0 0 0 0 00*48
+write 7 0 3 0 0 0 256 0 0 0 0 0 0 0 0 0 00*48
+write 7 0 3 0 0 0 0 -1 0 0 0 0 0 0 0 0 00*48
+write 7 0 3 0 0 0 0 0 65536 0 0 0 0 0 0 0 00*48
+write 7 0 3 0 0 0 0 0 0 4294967296 0 0 0 0 0 0 00*48
+write 7 0 3 0 0 0 0 0 0 0 0x100000000 0 0 0 0 0 00*48
+write 7 0 3 0 0 0 0 0 0 0 0 18446744073709551616 0 0 0 0 00*48
+write 7 0 3 0 0 0 0 0 0 0 0 0 0x10000000000000000 0 0 0 00*48
+write 7 0 3 0 0 0 0 0 0 0 0 0 0 0 a 0 00*48
+write 7 0 3 0 0 0 0 0 0 0 0 0 0 0 0 0 0
 add 00*512
 add 00*512 00*15 00
 add 0 00*15
@@ -361,7 +363,7 @@ def lengths():
     """Every length: with zeros after octet 0, and with one padding field that fills the datagram."""
     for n in LENGTHS:
         zeros = bytes([0x2B] + [0] * n)[:n]
-        yield f"header 3 {text_of(zeros)}"
+        yield f"header 7 3 {text_of(zeros)}"
         yield f"sound 3 {text_of(zeros)}"
         if n >= 52:
             length = (n - 48).to_bytes(2, "big")
@@ -374,13 +376,13 @@ def random_part():
         made, starts = datagram(mode, 1280 if i % 12 == 0 else 160)
         if i % 3:
             made = damaged(made, starts)
-        yield f"{R.choice(['sound', 'sound', 'header'])} {mode} {text_of(made)}"
+        yield f"{R.choice(['sound', 'sound', 'header 7'])} {mode} {text_of(made)}"
     for _ in range(14):
         words = [R.randrange(5), R.choice([3, 4, 4, R.randrange(8)]), R.randrange(256), R.randrange(-128, 128),
                  R.randrange(-128, 128), R.randrange(256), R.randrange(256), R.randrange(2 ** 16), R.randrange(2 ** 32),
                  R.randrange(2 ** 32), time(), time(), time(), time()]
         lent = bytes([R.randrange(256)]) * R.choice([47, 48, 48, 52, 100])
-        yield "write " + " ".join(map(numeral, words)) + " " + text_of(lent)
+        yield "write 7 " + " ".join(map(numeral, words)) + " 0 " + text_of(lent)
     for _ in range(8):
         first, second = some_filter(), some_filter()
         yield f"add {text_of(first)} {text_of(octets(15))}"
@@ -401,6 +403,8 @@ def main():
     print("\n".join(responder_lines(R)))
     print("\n".join(mac_lines()))
     print("\n".join(missed_lines()))
+    print("\n".join(edition_lines()))
+    print("\n".join(edition_answer_lines()))
     print("\n# A line one octet too long, and a last line with no line end")
     print("x" * 65537)
     print("sound 3 2b00*47", end="")

@@ -11,7 +11,7 @@ import sys
 
 sys.dont_write_bytecode = True      # no generated folder beside the sources
 from client_model import Table      # noqa: E402
-from page_model import (add, header_refusal, measure, read_header, sound, union, weight,           # noqa: E402
+from page_model import (add, measure, read_header, read_refusal, sound, union, weight,             # noqa: E402
                         write_header)
 from responder_model import Store       # noqa: E402
 
@@ -83,11 +83,11 @@ def unsigned(bits):
     return lambda word: number_of(word, 0, 2 ** bits - 1)
 
 
-U8, U16, U32, U64 = unsigned(8), unsigned(16), unsigned(32), unsigned(64)
+def signed(bits):
+    return lambda word: number_of(word, -2 ** (bits - 1), 2 ** (bits - 1) - 1)
 
 
-def I8(word):
-    return number_of(word, -128, 127)
+U8, U16, U32, U64, I8, I16 = unsigned(8), unsigned(16), unsigned(32), unsigned(64), signed(8), signed(16)
 
 
 def mode_of(word):
@@ -97,24 +97,25 @@ def mode_of(word):
     return word == "interleaved"
 
 
-# A header's words, in order, and how they are printed.
+# A header's words, in order, and how they are printed; the last is read in both editions, and printed of edition 1 alone.
 WORDS = [("leap", U8, "d"), ("mode", U8, "d"), ("stratum", U8, "d"), ("poll", I8, "d"), ("precision", I8, "d"),
          ("timescale", U8, "d"), ("era", U8, "d"), ("flags", U16, "#06x"), ("root_delay", U32, "#010x"),
          ("root_dispersion", U32, "#010x"), ("server_cookie", U64, "#018x"), ("client_cookie", U64, "#018x"),
-         ("receive", U64, "#018x"), ("transmit", U64, "#018x")]
+         ("receive", U64, "#018x"), ("transmit", U64, "#018x"), ("timescale_offset", I16, "d")]
 
 
-def header_call(mode, datagram):
-    refusal = header_refusal(datagram, mode)
+def header_call(edition, mode, datagram):
+    refusal = read_refusal(edition, datagram, mode)
     if refusal:
         return f"{refusal}"
-    values = read_header(datagram)
-    return "0 " + " ".join(f"{name}={values[name]:{form}}" for name, _, form in WORDS)
+    values = read_header(edition, datagram)
+    printed = WORDS if edition == 1 else WORDS[:-1]
+    return "0 " + " ".join(f"{name}={values[name]:{form}}" for name, _, form in printed)
 
 
-def write_call(*words):
+def write_call(edition, *words):
     values = {name: value for (name, _, _), value in zip(WORDS, words)}
-    refusal, octets = write_header(values, words[-1])
+    refusal, octets = write_header(edition, values, words[-1])
     return f"{refusal} {text_of(octets)}"
 
 
@@ -180,15 +181,15 @@ def answer_call(*words):
 
 # Each call: how its words are read, and what it prints after its name.
 CALLS = {
-    "header": ([U8, octets_of], header_call),
-    "write": ([read for _, read, _ in WORDS] + [octets_of], write_call),
+    "header": ([U8, U8, octets_of], header_call),
+    "write": ([U8] + [read for _, read, _ in WORDS] + [octets_of], write_call),
     "sound": ([U8, octets_of], lambda mode, datagram: f"{sound(datagram, mode)}"),
     "add": ([octets_of, octets_of], changed(add)),
     "union": ([octets_of, octets_of], changed(union)),
     "weight": ([octets_of], weight_call),
     "measure": ([U64] * 4, measure_call),
     "clear": ([], TABLE.clear),
-    "open": ([U8, U8, U16], TABLE.open),
+    "open": ([U8, U8, U8, U16], TABLE.open),
     "close": ([U8], TABLE.close),
     "poll": ([U8, U64, I8, mode_of, octets_of], poll_call),
     "sent": ([U8, U64], TABLE.sent),
@@ -198,7 +199,8 @@ CALLS = {
     "store": ([U8], STORE.clear),
     "lend": ([octets_of], lend_call),
     "report": ([U64, U64], report_call),
-    "answer": ([octets_of, U64, U64, U64, U8, U8, I8, I8, U8, U8, U16, U32, U32, octets_of, octets_of, octets_of], answer_call),
+    "answer": ([U8, octets_of, U64, U64, U64, U8, U8, I8, I8, U8, U8, U16, U32, U32, I16, octets_of, octets_of, octets_of],
+               answer_call),
 }
 
 

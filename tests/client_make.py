@@ -1,80 +1,27 @@
 """The client table's part of the case file: lines of clear, open, close, poll, sent, receive, verdict and publish.
 
-Each group begins with a comment and, where it needs one, a fresh table.
+Each group begins with a comment and, where it needs one, a fresh table. client_lines makes the groups of edition 7; those that
+fit edition 1 are made of it too, by edition_make.py.
 """
-from cases_model import text_of
+from case_lines import OTHER_ID, OWN_ID, Lines, chunk, exchange, filter_of
 from client_model import CHUNK_SIZES
-from page_model import FILTER_RESPONSE, add, extension, write_header
-
-WHOLE = {"leap": 0, "mode": 4, "stratum": 1, "poll": 6, "precision": -20, "timescale": 0, "era": 0, "flags": 0,
-         "root_delay": 0, "root_dispersion": 0, "server_cookie": 0, "client_cookie": 0, "receive": 20, "transmit": 30}
-OWN_ID = bytes.fromhex("0102030405060708090a0b0c0d0e0f")
-OTHER_ID = bytes.fromhex("f0e1d2c3b4a5968778695a4b3c2d1e")
-
-
-def response(cookie, *fields, **values):
-    """A response to the request with this client cookie."""
-    _, header = write_header({**WHOLE, "client_cookie": cookie, **values}, bytes(48))
-    return header + b"".join(fields)
-
-
-def chunk(octets):
-    return extension(FILTER_RESPONSE, octets)
-
-
-def filter_of(*identifiers):
-    made = bytes(512)
-    for identifier in identifiers:
-        _, made = add(made, identifier)
-    return made
-
-
-class Lines:
-    """The lines so far; each method writes a call."""
-
-    def __init__(self):
-        self.made = []
-
-    def group(self, comment):
-        self.made += ["", f"# {comment}"]
-
-    def add(self, text):
-        self.made += text.strip("\n").split("\n")
-
-    def fresh(self, comment, *opened):
-        """A group on a cleared table with these associations open: number, timescale and chunk size of each."""
-        self.group(comment)
-        self.add("clear")
-        for association, timescale, size in opened:
-            self.add(f"open {association} {timescale} {size}")
-
-    def poll(self, association, cookie, lent, mode="basic", exponent=6):
-        self.add(f"poll {association} {cookie} {exponent} {mode} {lent}")
-
-    def receive(self, association, t4, datagram):
-        self.add(f"receive {association} {t4} {text_of(datagram)}")
-
-    def verdict(self, association, identifier):
-        self.add(f"verdict {association} {text_of(identifier)}")
-
-    def publish(self, selected, identifier, lent):
-        self.add(f"publish {selected:#x} {text_of(identifier)} {lent}")
+from page_model import extension
 
 
 def opening(lines):
     lines.group("The client table: before any clear all are closed; open's and close's refusals, 6 before 7")
     lines.add("""
 close 0
-open 16 0 16
-open 0 0 24
-open 0 255 512
-open 0 0 16
-open 0 0 17
-open 15 7 32
+open 16 7 0 16
+open 0 7 0 24
+open 0 7 255 512
+open 0 7 0 16
+open 0 7 0 17
+open 15 7 7 32
 close 16
 close 14
 close 0
-open 0 1 128
+open 0 7 1 128
 clear
 close 15
 """)
@@ -93,7 +40,7 @@ poll 0 1 -128 interleaved aa*101
 poll 0 0x0102030405060708 127 basic aa*4096
 poll 0 18446744073709551615 -1 basic 55*100
 close 0
-open 0 255 512
+open 0 7 255 512
 poll 0 18446744073709551615 6 basic 00*595
 poll 0 18446744073709551615 6 basic 00*596
 """)
@@ -113,13 +60,13 @@ sent 0 11
 poll 0 2 6 basic 00*100
 sent 0 12
 """)
-    lines.receive(0, 40, response(2))
+    lines.receive(0, 40, lines.response(2))
     lines.add("sent 0 13")
 
 
 def receiving(lines):
     lines.fresh("Receive: refusals 6, 7, 1, 2, 3, 4 and 5, 13, 9, 10; none uses the request up", (0, 0, 16))
-    good = response(1, chunk(bytes(range(16))))
+    good = lines.response(1, chunk(bytes(range(16))))
     lines.receive(16, 1, good)
     lines.receive(0, 0, b"")
     lines.receive(1, 1, b"")
@@ -132,16 +79,16 @@ def receiving(lines):
     lines.receive(0, 40, good[:-4])
     lines.receive(0, 40, good + bytes.fromhex("f5010005ff000001f5010003"))
     lines.receive(0, 40, good + bytes.fromhex("f5010003f5010005ff000001"))
-    lines.receive(0, 40, response(2, bytes.fromhex("f5010003")))
-    lines.receive(0, 40, response(2, bytes.fromhex("f5020004f5010003")))
-    lines.receive(0, 40, response(2, bytes.fromhex("f5020004f5010004")))
-    lines.receive(0, 40, response(2, flags=2))
-    lines.receive(0, 40, response(1, flags=0xFFFF, leap=3))
+    lines.receive(0, 40, lines.response(2, bytes.fromhex("f5010003")))
+    lines.receive(0, 40, lines.response(2, bytes.fromhex("f5020004f5010003")))
+    lines.receive(0, 40, lines.response(2, bytes.fromhex("f5020004f5010004")))
+    lines.receive(0, 40, lines.response(2, flags=lines.flag))
+    lines.receive(0, 40, lines.response(1, flags=lines.all_flags, leap=3))
     lines.receive(0, 40, good)
     lines.receive(0, 40, good)
 
     lines.fresh("A late duplicate, before and after the next poll; an answer to a dropped request", (3, 0, 16))
-    first = response(1, chunk(b"\x11" * 16), server_cookie=7)
+    first = lines.response(1, chunk(b"\x11" * 16), server_cookie=7)
     lines.poll(3, 1, "00*100")
     lines.add("sent 3 10")
     lines.receive(3, 40, first)
@@ -150,55 +97,49 @@ def receiving(lines):
     lines.receive(3, 42, first)
     lines.poll(3, 3, "00*100")
     lines.add("sent 3 50")
-    lines.receive(3, 80, response(2, chunk(b"\x22" * 16)))
-    lines.receive(3, 80, response(3, chunk(b"\x33" * 16), receive=60, transmit=70))
-
-
-def exchange(lines, association, cookie, t1, t4, datagram, mode="basic", size=16):
-    """A poll, its send (none for T1 0), and its answer."""
-    lines.poll(association, cookie, f"00*{84 + size}", mode)
-    if t1:
-        lines.add(f"sent {association} {t1}")
-    lines.receive(association, t4, datagram)
+    lines.receive(3, 80, lines.response(2, chunk(b"\x22" * 16)))
+    lines.receive(3, 80, lines.response(3, chunk(b"\x33" * 16), receive=60, transmit=70))
 
 
 def judging(lines):
-    lines.fresh("Judgements 1 to 4 in order, each with its chunk taken, and a usable answer", (2, 5, 16))
+    lines.fresh(f"Judgements 1 to 4 in order, each with its chunk {lines.outcome}, and a usable answer", (2, 5, 16))
+    above = 16 if lines.edition == 7 else 0     # edition 1 has no stratum above 15
     answers = [(0, {"leap": 3, "stratum": 0, "timescale": 4}), (0, {"stratum": 0, "timescale": 4}),
-               (10, {"stratum": 16, "timescale": 5}), (0, {"timescale": 4, "receive": 0}), (0, {"timescale": 5}),
+               (10, {"stratum": above, "timescale": 5}), (0, {"timescale": 4, "receive": 0}), (0, {"timescale": 5}),
                (10, {"timescale": 5, "receive": 0}), (10, {"timescale": 5, "transmit": 0}),
-               (10, {"timescale": 5, "stratum": 15, "leap": 2, "flags": 0xFFFD})]
+               (10, {"timescale": 5, "stratum": 15, "leap": 2, "flags": lines.all_flags - lines.flag})]
     for cookie, (t1, values) in enumerate(answers, 1):
-        exchange(lines, 2, cookie, t1, 41, response(cookie, chunk(bytes([cookie]) * 16), **values))
+        exchange(lines, 2, cookie, t1, 41, lines.response(cookie, chunk(bytes([cookie]) * 16), **values))
 
     lines.fresh("Measurement in receive: M8 (an era's end), M10, and a negative delay's size", (0, 0, 16))
     times = [(0xFFFFFFFF00000000, 0x80000000, 0x80000000, 0x100000000), (1, 2 ** 63 + 1, 2 ** 63 + 1, 1),
              (10, 20, 60, 30)]
     for cookie, (t1, t2, t3, t4) in enumerate(times, 1):
-        exchange(lines, 0, cookie, t1, t4, response(cookie, receive=t2, transmit=t3))
+        exchange(lines, 0, cookie, t1, t4, lines.response(cookie, receive=t2, transmit=t3))
 
 
 def interleaving(lines):
     lines.fresh("Interleaved: T1, T2, T4 of the previous exchange; a basic answer; refusal 10", (1, 0, 16))
-    first = response(1, receive=20, transmit=30, server_cookie=0x1111)
-    second = response(2, receive=120, transmit=25, server_cookie=0x2222, flags=2)
-    basic = response(3, receive=220, transmit=231, server_cookie=0x3333)
+    first = lines.response(1, receive=20, transmit=30, server_cookie=0x1111)
+    second = lines.response(2, receive=120, transmit=25, server_cookie=0x2222, flags=lines.flag)
+    basic = lines.response(3, receive=220, transmit=231, server_cookie=0x3333)
     exchange(lines, 1, 1, 10, 40, first, "interleaved")
     exchange(lines, 1, 2, 110, 140, second, "interleaved")
     exchange(lines, 1, 3, 210, 241, basic, "interleaved")
     lines.poll(1, 4, "00*100")
-    lines.receive(1, 340, response(4, flags=2))
-    lines.receive(1, 340, response(4, server_cookie=0x4444))
+    lines.receive(1, 340, lines.response(4, flags=lines.flag))
+    lines.receive(1, 340, lines.response(4, server_cookie=0x4444))
 
     lines.group("An interleaved answer needs no times of its own but T3: the saved T1 was not reported, then it was")
-    exchange(lines, 1, 5, 410, 440, response(5, flags=2, receive=420, server_cookie=0x5555), "interleaved")
-    exchange(lines, 1, 6, 0, 540, response(6, flags=2, receive=0, transmit=429, server_cookie=0x6666), "interleaved")
+    exchange(lines, 1, 5, 410, 440, lines.response(5, flags=lines.flag, receive=420, server_cookie=0x5555), "interleaved")
+    exchange(lines, 1, 6, 0, 540, lines.response(6, flags=lines.flag, receive=0, transmit=429, server_cookie=0x6666), "interleaved")
 
     lines.group("Both timescales count for an interleaved answer; an unusable answer is saved too")
-    exchange(lines, 1, 7, 610, 640, response(7, timescale=1, receive=620, server_cookie=0x7777))
-    exchange(lines, 1, 8, 710, 740, response(8, flags=2, receive=720, server_cookie=0x8888), "interleaved")
-    exchange(lines, 1, 9, 0, 840, response(9, flags=2, transmit=730, server_cookie=0x9999), "interleaved")
-    lines.add("close 1\nopen 1 0 16")
+    exchange(lines, 1, 7, 610, 640, lines.response(7, timescale=1, receive=620, server_cookie=0x7777))
+    exchange(lines, 1, 8, 710, 740, lines.response(8, flags=lines.flag, receive=720, server_cookie=0x8888), "interleaved")
+    exchange(lines, 1, 9, 0, 840, lines.response(9, flags=lines.flag, transmit=730, server_cookie=0x9999), "interleaved")
+    lines.add("close 1")
+    lines.open(1, 0, 16)
     lines.poll(1, 9, "00*100", "interleaved")
 
 
@@ -209,7 +150,7 @@ def outcomes(lines):
                (chunk(b"\xaa" * 20), right), (right, chunk(b"\xbb" * 16)),
                (unknown, extension(0xF501, bytes(3)), extension(0xF505, bytes(4)), right)]
     for cookie, fields in enumerate(answers, 1):
-        exchange(lines, 4, cookie, 0, 40, response(cookie, *fields))
+        exchange(lines, 4, cookie, 0, 40, lines.response(cookie, *fields))
     lines.poll(4, 99, "00*100")
 
 
@@ -218,17 +159,17 @@ def completing(lines, random):
     lines.add("clear")
     for association, size in enumerate(CHUNK_SIZES):
         target = filter_of(OTHER_ID, *(random.randbytes(15) for _ in range(8)))
-        lines.add(f"open {association} 0 {size}")
+        lines.open(association, 0, size)
         for cookie, at in enumerate(range(0, 512, size), 1):
             if at + size == 512:
                 lines.verdict(association, OTHER_ID)
-            exchange(lines, association, cookie, 0, 41, response(cookie, chunk(target[at:at + size])), size=size)
+            exchange(lines, association, cookie, 0, 41, lines.response(cookie, chunk(target[at:at + size])), size=size)
         lines.verdict(association, OTHER_ID)
         lines.publish(2 ** association, OWN_ID, "00*512")
     lines.publish(0x3F, OWN_ID, "aa*516")
 
     lines.group("The offset is 0 again: a second round replaces octets; verdicts with all ten bits set, and nine")
-    exchange(lines, 4, 100, 0, 40, response(100, chunk(b"\x0f" * 256)), size=256)
+    exchange(lines, 4, 100, 0, 40, lines.response(100, chunk(b"\x0f" * 256)), size=256)
     lines.publish(0x10, OWN_ID, "00*512")
     lines.verdict(4, bytes.fromhex("000001002003000001002003000003"))
     lines.verdict(4, bytes.fromhex("000001002003000001002003000004"))
@@ -236,8 +177,8 @@ def completing(lines, random):
 
 def judging_loops(lines):
     lines.group("Verdicts, on the same table: incomplete though all ten bits are set already; refusals 6 and 7")
-    lines.add("open 6 0 256")
-    exchange(lines, 6, 1, 0, 40, response(1, chunk(b"\xff" * 256)), size=256)
+    lines.open(6, 0, 256)
+    exchange(lines, 6, 1, 0, 40, lines.response(1, chunk(b"\xff" * 256)), size=256)
     lines.add("""
 verdict 6 00*15
 verdict 16 00*15
@@ -268,8 +209,8 @@ def mixing(lines):
         lines.poll(6, cookie, "00*340")
         lines.poll(15, cookie, "00*340")
         lines.add("sent 15 11\nsent 6 10")
-        lines.receive(15, 44, response(cookie, chunk(second[at:at + 256]), receive=520, transmit=530))
-        lines.receive(6, 40, response(cookie, chunk(first[at:at + 256])))
+        lines.receive(15, 44, lines.response(cookie, chunk(second[at:at + 256]), receive=520, transmit=530))
+        lines.receive(6, 40, lines.response(cookie, chunk(first[at:at + 256])))
     lines.publish(0x40, bytes(15), "00*512")
     lines.publish(0x8000, bytes(15), "00*512")
     lines.publish(0x8040, bytes(15), "00*512")
@@ -281,11 +222,11 @@ def faults(lines):
     lines.fresh("Lines of the client table that are no calls, and that they change nothing", (0, 0, 16))
     lines.add("""
 clear 0
-open 1 0
-open 1 0 16 0
-open 256 0 16
-open 1 256 16
-open 1 0 65536
+open 1 7 0
+open 1 7 0 16 0
+open 256 7 0 16
+open 1 7 256 16
+open 1 7 0 65536
 close -1
 close 0 0
 poll

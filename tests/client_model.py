@@ -1,11 +1,11 @@
-"""The client table, C-1 to C-33 and W211-1 to W211-5: its plain table, with the calls that change or read it.
+"""The client table, C-1 to C-33, W204-7 to W204-10 and W211-1 to W211-5: its plain table, with the calls that change or read it.
 
 Sixteen places, each closed (None) or open. A call answers its refusal number, 0 for success, and after it what
 else the rules have it answer; a refused call answers zeros, leaves its output buffer as lent and changes nothing (N-27, N-28).
 """
 from dataclasses import dataclass, field
 
-from page_model import (DRAFT, DRAFT_NAME, FILTER_REQUEST, FILTER_RESPONSE, INTERLEAVED, add, extension, fields,
+from page_model import (DRAFT, DRAFT_NAME, FILTER_REQUEST, FILTER_RESPONSE, INTERLEAVED, add, extension, fields, fits,
                         measure, positions, read_header, sound, union, write_header)
 
 CHUNK_SIZES = (16, 32, 64, 128, 256, 512)
@@ -38,6 +38,7 @@ class Exchange:
 @dataclass
 class Place:
     """An open association."""
+    edition: int
     timescale: int
     chunk_size: int
     next_offset: int = 0
@@ -62,8 +63,17 @@ class Place:
             return 0
         return self.saved.server_cookie
 
+    def request_fields(self):
+        """The fields of a request: draft name and filter request, and none in edition 1 (W204-8)."""
+        if self.edition == 1:
+            return b""
+        asked = self.next_offset.to_bytes(2, "big") + bytes(self.chunk_size - 2)
+        return extension(DRAFT, DRAFT_NAME) + extension(FILTER_REQUEST, asked)
+
     def take(self, start, datagram):
-        """What becomes of the first filter response's octets."""
+        """What becomes of the first filter response's octets; edition 1 knows no such field (W204-9)."""
+        if self.edition == 1:
+            return ABSENT
         data = next((data for kind, data in fields(datagram) if kind == FILTER_RESPONSE), None)
         if data is None:
             return ABSENT
@@ -74,13 +84,6 @@ class Place:
             self.taken[at] = True
         self.next_offset = (self.next_offset + self.chunk_size) % 512
         return TAKEN
-
-
-def request_octets(values, start, chunk_size):
-    """A whole request: header, draft name, filter request."""
-    _, header = write_header(values, bytes(48))
-    asked = start.to_bytes(2, "big") + bytes(chunk_size - 2)
-    return header + extension(DRAFT, DRAFT_NAME) + extension(FILTER_REQUEST, asked)
 
 
 def judge(response, timescales, wanted, times):
@@ -111,12 +114,12 @@ class Table:
         self.places = [None] * 16
         return 0
 
-    def open(self, association, timescale, chunk_size):
-        if association > 15 or chunk_size not in CHUNK_SIZES:
+    def open(self, association, edition, timescale, chunk_size):
+        if association > 15 or chunk_size not in CHUNK_SIZES or not fits(edition, {"timescale": timescale}):
             return 6
         if self.places[association] is not None:
             return 7
-        self.places[association] = Place(timescale, chunk_size)
+        self.places[association] = Place(edition, timescale, chunk_size)
         return 0
 
     def close(self, association):
@@ -133,18 +136,20 @@ class Table:
         place = self.places[association]
         if cookie in (0, place.last_cookie):
             return 8, 0, output
-        length = 84 + place.chunk_size
+        extensions = place.request_fields()
+        length = 48 + len(extensions)
         if len(output) < length:
             return 11, 0, output
         place.count_missed()
         server_cookie = place.sent_cookie(interleaved)
         values = {"leap": 0, "mode": 3, "stratum": 0, "poll": exponent, "precision": 0, "timescale": place.timescale,
-                  "era": 0, "flags": INTERLEAVED if interleaved else 0, "root_delay": 0, "root_dispersion": 0,
-                  "server_cookie": server_cookie, "client_cookie": cookie, "receive": 0, "transmit": 0}
-        written = request_octets(values, place.next_offset, place.chunk_size)
+                  "era": 0, "flags": INTERLEAVED[place.edition] if interleaved else 0, "timescale_offset": 0,
+                  "root_delay": 0, "root_dispersion": 0, "server_cookie": server_cookie, "client_cookie": cookie,
+                  "receive": 0, "transmit": 0}
+        _, header = write_header(place.edition, values, bytes(48))
         place.last_cookie = cookie
         place.outstanding = Request(cookie, server_cookie, place.next_offset)
-        return 0, length, written + output[length:]
+        return 0, length, header + extensions + output[length:]
 
     def sent(self, association, t1):
         refusal = self.refusal(association, t1 != 0)
@@ -161,11 +166,12 @@ class Table:
         refusal = self.refusal(association, t4 != 0) or sound(datagram, 4)
         if refusal:
             return refusal, 0, 0, 0, 0
-        place, response = self.places[association], read_header(datagram)
+        place = self.places[association]
+        response = read_header(place.edition, datagram)
         request, previous = place.outstanding, place.saved
         if request is None or request.client_cookie != response["client_cookie"]:
             return 9, 0, 0, 0, 0
-        interleaved = response["flags"] & INTERLEAVED
+        interleaved = response["flags"] & INTERLEAVED[place.edition]
         if interleaved and request.server_cookie == 0:
             return 10, 0, 0, 0, 0
 

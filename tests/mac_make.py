@@ -1,8 +1,8 @@
 """The part of the case file for W205-1 to W205-9: a MAC alone, last and not last, in requests and responses."""
+from case_lines import Lines, chunk
 from cases_model import text_of
-from client_make import Lines, chunk, response
 from page_model import INFORMATION, PADDING, extension
-from responder_make import Lines as ResponderLines, asked, request, wanted
+from responder_make import Lines as ResponderLines, asked
 
 MAC = extension(0xF502, b"\x01\x02\x03\x04")
 LONG_MAC = extension(0xF502, bytes(range(21)))      # three octets of padding
@@ -30,55 +30,54 @@ def sounding(lines):
     after = bytes([0x2B]) + bytes(47) + MAC + OTHER
     for datagram in (after[:-2], bytes([0x23]) + after[1:], bytes([0x2C]) + after[1:]):
         lines.add(f"sound 3 {text_of(datagram)}")
-    lines.add(f"header 3 {text_of(after)}")
+    lines.add(f"header 7 3 {text_of(after)}")
 
 
 def receiving(lines):
     taken = chunk(b"\x11" * 16)
-    lines.fresh("Receive with a MAC: 13 after 6, 7 and 5, before 9 and 10, uses no request up; last, its chunk is taken",
-                (6, 0, 16))
-    lines.receive(6, 0, response(1, MAC, taken))
-    lines.receive(7, 40, response(1, MAC, taken))
-    lines.receive(6, 40, response(1, MAC, taken))
+    lines.fresh("Receive with a MAC: 13 after 6, 7 and 5, before 9 and 10, uses no request up; last, its chunk is "
+                f"{lines.outcome}", (6, 0, 16))
+    lines.receive(6, 0, lines.response(1, MAC, taken))
+    lines.receive(7, 40, lines.response(1, MAC, taken))
+    lines.receive(6, 40, lines.response(1, MAC, taken))
     lines.poll(6, 1, "00*100")
     lines.add("sent 6 10")
-    lines.receive(6, 40, response(1, MAC, taken))
+    lines.receive(6, 40, lines.response(1, MAC, taken))
     for fields in NOT_LAST + WRONG:
-        lines.receive(6, 40, response(1, taken, *fields))
-    for values in ({"client_cookie": 2}, {"flags": 2}):
-        lines.receive(6, 40, response(1, MAC, taken, **values))
-        lines.receive(6, 40, response(1, taken, MAC, **values))
-    lines.receive(6, 40, response(1, taken, LONG_MAC))
+        lines.receive(6, 40, lines.response(1, taken, *fields))
+    for values in ({"client_cookie": 2}, {"flags": lines.flag}):
+        lines.receive(6, 40, lines.response(1, MAC, taken, **values))
+        lines.receive(6, 40, lines.response(1, taken, MAC, **values))
+    lines.receive(6, 40, lines.response(1, taken, LONG_MAC))
     for cookie, fields in enumerate(LAST + NO_MAC, 2):
         lines.poll(6, cookie, "00*100")
-        lines.receive(6, 40, response(cookie, taken, *fields))
+        lines.receive(6, 40, lines.response(cookie, taken, *fields))
 
 
-def answering():
-    lines = ResponderLines()
+def answering(lines):
     lines.group("Answers to requests with a MAC at their end: padding in its place, as for any unknown field", 1)
     information = extension(INFORMATION, bytes(4))
     for last in (MAC, LONG_MAC, EMPTY_MAC, extension(0x1234, bytes(21))):
-        lines.answer(request(last))
-        lines.answer(request(asked(16, 32), information, last))
+        lines.answer(lines.request(last))
+        lines.answer(lines.request(asked(16, 32), information, last))
     lines.group("Answer with a MAC: 13 after 6 and 5, before 8 and 11; the store is kept", 2)
-    lines.answer(wanted(), fresh=7)
+    lines.answer(lines.wanted(), fresh=7)
     lines.report(7, 1100)
-    after = wanted(7) + MAC + information
+    after = lines.wanted(7) + MAC + information
     lines.answer(after, receive=0, fresh=8)
     for fields in NOT_LAST + WRONG:
-        lines.answer(wanted(7) + b"".join(fields), fresh=8)
+        lines.answer(lines.wanted(7) + b"".join(fields), fresh=8)
     for fresh in (0, 7):
         lines.answer(after, fresh=fresh, lent=b"")
-    lines.answer(wanted(7) + information + MAC, fresh=0)
+    lines.answer(lines.wanted(7) + information + MAC, fresh=0)
     lines.report(9, 0)
-    lines.answer(wanted(7) + information + MAC, fresh=8)
-    return lines.made
+    lines.answer(lines.wanted(7) + information + MAC, fresh=8)
 
 
 def mac_lines():
     """The whole part."""
-    lines = Lines()
+    lines, answers = Lines(), ResponderLines()
     sounding(lines)
     receiving(lines)
-    return lines.made + answering()
+    answering(answers)
+    return lines.made + answers.made

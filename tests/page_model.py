@@ -1,4 +1,4 @@
-"""What the requirements (docs/RULES.md, H, F, B, T and W205, W206) say of single calls: each answer from its arguments alone.
+"""What the requirements (docs/RULES.md, H, F, B, T and W204 to W206) say of single calls: each answer from its arguments alone.
 
 Plain Python, written from the requirements, and from nothing of the Rattle code:
 octet strings are `bytes`, numbers are whole numbers without a width.
@@ -7,7 +7,18 @@ octet strings are `bytes`, numbers are whole numbers without a width.
 
 DRAFT_NAME = b"draft-mlichvar-ntp-ntpv5-07"
 PADDING, MAC, FILTER_REQUEST, FILTER_RESPONSE, INFORMATION, DRAFT = 0xF501, 0xF502, 0xF503, 0xF504, 0xF505, 0xF5FF
-INTERLEAVED = 0x2       # a flag
+INTERLEAVED = {1: 0x4, 7: 0x2}      # the flag of each edition
+
+# A header's fields in order, by edition: name, bits, whether signed. Octet 0 and the octets from 8 on are the same in both.
+OCTET_0 = [("leap", 2, False), ("version", 3, False), ("mode", 3, False)]
+FROM_OCTET_8 = [("root_delay", 32, False), ("root_dispersion", 32, False), ("server_cookie", 64, False),
+                ("client_cookie", 64, False), ("receive", 64, False), ("transmit", 64, False)]
+LAYOUTS = {
+    1: OCTET_0 + [("timescale", 4, False), ("stratum", 4, False), ("poll", 8, True), ("precision", 8, True),
+                  ("flags", 8, False), ("era", 8, False), ("timescale_offset", 16, True)] + FROM_OCTET_8,
+    7: OCTET_0 + [("stratum", 8, False), ("poll", 8, True), ("precision", 8, True), ("timescale", 8, False),
+                  ("era", 8, False), ("flags", 16, False)] + FROM_OCTET_8,
+}
 
 
 def number(octets):
@@ -65,30 +76,36 @@ def extension(kind, data):
     return kind.to_bytes(2, "big") + length.to_bytes(2, "big") + data + bytes(-length % 4)
 
 
-# The fields after octet 0: name, first octet, octets, whether signed.
-FIELDS = [("stratum", 1, 1, False), ("poll", 2, 1, True), ("precision", 3, 1, True), ("timescale", 4, 1, False),
-          ("era", 5, 1, False), ("flags", 6, 2, False), ("root_delay", 8, 4, False), ("root_dispersion", 12, 4, False),
-          ("server_cookie", 16, 8, False), ("client_cookie", 24, 8, False), ("receive", 32, 8, False),
-          ("transmit", 40, 8, False)]
+def read_refusal(edition, datagram, wanted_mode):
+    """Reading a header: 6 for another edition (W204-1), then N-1 to N-3."""
+    return header_refusal(datagram, wanted_mode) if edition in LAYOUTS else 6
 
 
-def read_header(datagram):
-    values = {"leap": datagram[0] // 64, "mode": datagram[0] % 8}
-    for name, start, size, signed in FIELDS:
-        values[name] = int.from_bytes(datagram[start:start + size], "big", signed=signed)
+def read_header(edition, datagram):
+    """All fields by name; edition 7 has no timescale offset, and it reads as 0 (W204-3)."""
+    values, bits = {"timescale_offset": 0}, "".join(f"{octet:08b}" for octet in datagram[:48])
+    for name, size, signed in LAYOUTS[edition]:
+        value, bits = int(bits[:size], 2), bits[size:]
+        values[name] = value - 2 ** size if signed and value >= 2 ** (size - 1) else value
     return values
 
 
-def write_header(values, output):
-    """N-7, then N-23; octets past the header stay (N-29), and all of them on a refusal."""
-    if values["leap"] > 3 or values["mode"] not in (3, 4):
+def fits(edition, values):
+    """W204-1, W204-5 and the leap of N-7: whether the edition is one, and its header has the bits for these numbers."""
+    return edition in LAYOUTS and all(
+        0 <= values[name] + (2 ** (size - 1) if signed else 0) < 2 ** size
+        for name, size, signed in LAYOUTS[edition] if name in values)
+
+
+def write_header(edition, values, output):
+    """6, then N-23; octets past the header stay (N-29), and all of them on a refusal."""
+    if not fits(edition, values) or values["mode"] not in (3, 4):
         return 6, output
     if len(output) < 48:
         return 11, output
-    octets = bytes([values["leap"] * 64 + 5 * 8 + values["mode"]])
-    for name, start, size, signed in FIELDS:
-        octets += values[name].to_bytes(size, "big", signed=signed)
-    return 0, octets + output[48:]
+    written = {**values, "version": 5}
+    bits = "".join(f"{written[name] % 2 ** size:0{size}b}" for name, size, _ in LAYOUTS[edition])
+    return 0, int(bits, 2).to_bytes(48, "big") + output[48:]
 
 
 def positions(identifier):

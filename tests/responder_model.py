@@ -1,12 +1,13 @@
-"""The responder and its store of saved timestamps, R-1 to R-20.
+"""The responder and its store of saved timestamps, R-1 to R-20 and W204-13 to W204-15.
 
 A call answers its refusal number, 0 for success, and after it what else the rules have it answer; a refused call
 answers zeros, leaves its output buffer as lent and changes nothing (N-27, N-28).
 """
 from page_model import (DRAFT, DRAFT_NAME, FILTER_REQUEST, FILTER_RESPONSE, INFORMATION, INTERLEAVED, PADDING, extension,
-                        fields, number, read_header, sound, write_header)
+                        fields, fits, number, read_header, sound, write_header)
 
-SERVER = ("leap", "stratum", "poll", "precision", "timescale", "era", "flags", "root_delay", "root_dispersion")
+SERVER = ("leap", "stratum", "poll", "precision", "timescale", "era", "flags", "root_delay", "root_dispersion",
+          "timescale_offset")
 
 
 def good_request(data):
@@ -14,9 +15,11 @@ def good_request(data):
     return len(data) in range(4, 513, 4) and number(data[:2]) + len(data) <= 512
 
 
-def answer_fields(request, filter_octets, information):
+def answer_fields(edition, request, filter_octets, information):
     """R-16 to R-19: what answers each field; F-18: a second field of a type already met is skipped."""
     met = set()
+    if edition == 1:        # it knows no field (W204-14)
+        return
     for kind, data in fields(request):
         if kind in met:
             continue
@@ -75,16 +78,16 @@ class Store:
         self.keep([(c, time if c == cookie else t) for c, t in row])
         return 0
 
-    def answer(self, request, receive, estimate, fresh, *rest):
-        """`rest` is the server's nine values, its filter, its server information, and the output buffer."""
+    def answer(self, edition, request, receive, estimate, fresh, *rest):
+        """`rest` is the server's ten values, its filter, its server information, and the output buffer."""
         server, (filter_octets, information, output) = dict(zip(SERVER, rest)), rest[len(SERVER):]
-        if (self.wrong() or len(filter_octets) != 512 or len(information) != 4 or server["leap"] > 3
+        if (self.wrong() or len(filter_octets) != 512 or len(information) != 4 or not fits(edition, server)
                 or receive == 0 or estimate == 0):
             return 6, 0, output
         if refusal := sound(request, 3):
             return refusal, 0, output
-        asked, row = read_header(request), self.row()
-        wanted = bool(asked["flags"] & INTERLEAVED)
+        asked, row, flag = read_header(edition, request), self.row(), INTERLEAVED[edition]
+        wanted = bool(asked["flags"] & flag)
         if wanted and (fresh == 0 or fresh in dict(row)):
             return 8, 0, output
         if len(output) < len(request):
@@ -95,11 +98,11 @@ class Store:
             if 16 * len(row) == len(self.octets):
                 row = row[1:]
             self.keep(row + [(fresh, 0)])
-        flags = server["flags"] & ~INTERLEAVED | (INTERLEAVED if saved else 0)
-        _, octets = write_header({**server, "mode": 4, "flags": flags, "server_cookie": fresh if wanted else 0,
-                                  "client_cookie": asked["client_cookie"], "receive": receive,
-                                  "transmit": saved or estimate}, bytes(48))
-        octets += b"".join(answer_fields(request, filter_octets, information))
+        flags = server["flags"] & ~flag | (flag if saved else 0)
+        _, octets = write_header(edition, {**server, "mode": 4, "flags": flags, "server_cookie": fresh if wanted else 0,
+                                           "client_cookie": asked["client_cookie"], "receive": receive,
+                                           "transmit": saved or estimate}, bytes(48))
+        octets += b"".join(answer_fields(edition, request, filter_octets, information))
         left = len(request) - len(octets)
         if left:
             octets += extension(PADDING, bytes(left - 4))

@@ -3,8 +3,9 @@
  * signal handler makes the call on a painted stack of its own, where nothing else writes below the handler; the octets whose paint
  * is gone are counted, less those of a handler that calls nothing.
  *
- * Each call is tried on several inputs, and the deepest counts. Prints `call octets limit input`, and ends with 1 if a call is above
- * its limit or far below it, or if it was refused otherwise than its input asks: then it has not gone where it should.
+ * Each call is tried on several inputs, in both editions, and the deepest counts. Prints `call octets limit input`, and ends with 1
+ * if a call is above its limit or far below it, or if it was refused otherwise than its input asks: then it has not gone where it
+ * should.
  */
 #define _XOPEN_SOURCE 700
 #include <signal.h>
@@ -29,18 +30,18 @@ static const struct row {
 } rows[] = {
     {"ntp5_table_words", call_table_words, any, SMALL},
     {"ntp5_clear", call_clear, any, SMALL},
-    {"ntp5_open", call_open, closed, 1100},
-    {"ntp5_close", call_close, opened, 1100},
-    {"ntp5_poll", call_poll, opened, 1230},
-    {"ntp5_sent", call_sent, polled, 1100},
+    {"ntp5_open", call_open, closed, 1190},
+    {"ntp5_close", call_close, opened, 1190},
+    {"ntp5_poll", call_poll, opened, 1320},
+    {"ntp5_sent", call_sent, polled, 1190},
     {"ntp5_receive", call_receive, responses, 12000},
-    {"ntp5_loop_verdict", call_loop_verdict, complete_filter, 350},
-    {"ntp5_publish", call_publish, complete, 890},
+    {"ntp5_loop_verdict", call_loop_verdict, complete_filter, 440},
+    {"ntp5_publish", call_publish, complete, 960},
     {"ntp5_store_clear", call_store_clear, any, SMALL},
     {"ntp5_report", call_report, stored, 100},
     {"ntp5_answer", call_answer, answerable, 12200},
-    {"ntp5_header_read", call_header_read, header_alone, 240},
-    {"ntp5_header_write", call_header_write, any, 270},
+    {"ntp5_header_read", call_header_read, header_alone, 270},
+    {"ntp5_header_write", call_header_write, any, 350},
     {"ntp5_sound", call_sound, requests, 11800},
     {"ntp5_filter_add", call_filter_add, any, 92},
     {"ntp5_filter_union", call_filter_union, any, SMALL},
@@ -70,25 +71,43 @@ static size_t written(void (*call)(void))
     return sizeof stack - clean;
 }
 
-/* The deepest that a call goes on its inputs, and the name of that input; 0 if it was refused otherwise than the input asks. */
-static size_t deepest(const struct row *r, const char **input)
+/* The deepest of a call's inputs so far. */
+struct depth {
+    size_t octets;
+    uint8_t edition;
+    const char *input;
+};
+
+/* Looks at a call's inputs in `edition`. Whether it was refused otherwise than one of them asks. */
+static bool go_deeper(const struct row *r, struct depth *most)
 {
-    size_t most = 0, none = written(nothing);
+    size_t none = written(nothing);
     for (size_t n = 0;; n++) {
         expected = NTP5_OK;
         const char *name = r->input(n);
         if (name == NULL)
-            return most;
+            return false;
         size_t octets = written(r->call) - none;
         if (refusal != expected) {
             printf("stack: %s, %s: refused with %u, and not with %u\n", r->name, name, refusal, expected);
-            return 0;
+            return true;
         }
-        if (octets > most) {
-            most = octets;
-            *input = name;
-        }
+        if (octets > most->octets)
+            *most = (struct depth){octets, edition, name};
     }
+}
+
+/* The deepest that a call goes; 0 octets if it was refused otherwise than an input asks. */
+static struct depth deepest(const struct row *r)
+{
+    static const uint8_t editions[] = {7, 1};
+    struct depth most = {0, 0, ""};
+    for (size_t i = 0; i < sizeof editions; i++) {
+        edition = editions[i];
+        if (go_deeper(r, &most))
+            return (struct depth){0, edition, ""};
+    }
+    return most;
 }
 
 /* What is wrong with a call that takes so many octets, or with its limit; NULL if nothing is. */
@@ -115,15 +134,14 @@ int main(void)
         return 1;
     }
     for (size_t i = 0; i < calls; i++) {
-        const char *input = "";
-        size_t octets = deepest(&rows[i], &input);
-        printf("%-18s %6zu %6zu  %s\n", rows[i].name, octets, rows[i].limit, input);
-        const char *why = fault(octets, rows[i].limit);
+        struct depth d = deepest(&rows[i]);
+        printf("%-18s %6zu %6zu  %s%s\n", rows[i].name, d.octets, rows[i].limit, d.edition == 1 ? "edition 1, " : "", d.input);
+        const char *why = fault(d.octets, rows[i].limit);
         if (why != NULL) {
             printf("stack: %s %s\n", rows[i].name, why);
             wrong = true;
         }
-        most = octets > most ? octets : most;
+        most = d.octets > most ? d.octets : most;
     }
     if (!wrong)
         printf("stack: %zu calls, the deepest %zu octets, each below its limit\n", calls, most);

@@ -7,21 +7,21 @@
 #include <stdlib.h>
 #include <string.h>
 
-enum { RECORDS = 64, INTERLEAVED = 0x2, WHOLE = 5 /* the input whose chunk is the whole filter */ };
+enum { RECORDS = 64, WHOLE = 5 /* the input whose chunk is the whole filter */ };
 
 static uint64_t table[NTP5_TABLE_AT_MOST / sizeof(uint64_t)];
 static uint8_t store[RECORDS * NTP5_STORE_RECORD];
 static uint8_t datagram[NTP5_DATAGRAM_AT_MOST], out[NTP5_DATAGRAM_AT_MOST];
 static uint8_t filter[NTP5_FILTER_OCTETS], other[NTP5_FILTER_OCTETS], id[NTP5_ID_OCTETS], information[NTP5_INFORMATION_OCTETS];
 static size_t size, length;        /* of the table in numbers, of the datagram in octets */
-static uint8_t association;
+static uint8_t edition = 7, association;
 static uint16_t chunk, selected;
 static uint64_t cookie;            /* the last one; the next is one more */
 static unsigned refusal, expected; /* what the call answered, and what its input asks */
 
 static void call_table_words(void) { refusal = ntp5_table_words() != size; }
 static void call_clear(void) { refusal = ntp5_clear(table, size); }
-static void call_open(void) { refusal = ntp5_open(table, size, association, 0, chunk); }
+static void call_open(void) { refusal = ntp5_open(table, size, association, edition, 0, chunk); }
 static void call_close(void) { refusal = ntp5_close(table, size, association); }
 static void call_sent(void) { refusal = ntp5_sent(table, size, association, 1); }
 static void call_receive(void) { refusal = ntp5_receive(table, size, association, datagram, length, 9).refusal; }
@@ -29,7 +29,7 @@ static void call_loop_verdict(void) { refusal = ntp5_loop_verdict(table, size, a
 static void call_publish(void) { refusal = ntp5_publish(table, size, selected, id, sizeof id, out, sizeof out).refusal; }
 static void call_store_clear(void) { refusal = ntp5_store_clear(store, sizeof store); }
 static void call_report(void) { refusal = ntp5_report(store, sizeof store, cookie, 7); }
-static void call_header_read(void) { refusal = ntp5_header_read(datagram, length, NTP5_REQUEST).refusal; }
+static void call_header_read(void) { refusal = ntp5_header_read(edition, datagram, length, NTP5_REQUEST).refusal; }
 static void call_sound(void) { refusal = ntp5_sound(datagram, length, NTP5_REQUEST); }
 static void call_filter_add(void) { refusal = ntp5_filter_add(filter, sizeof filter, id, sizeof id); }
 static void call_filter_union(void) { refusal = ntp5_filter_union(filter, sizeof filter, other, sizeof other); }
@@ -45,18 +45,22 @@ static void call_poll(void)
 
 static void call_answer(void)
 {
-    refusal = ntp5_answer(store, sizeof store, datagram, length, 5, 6, ++cookie, 0, 1, 6, -20, 0, 0, 0, 0, 0, filter, sizeof filter,
+    ntp5_server server = {.stratum = 1, .poll = 6, .precision = -20};
+    refusal = ntp5_answer(store, sizeof store, edition, datagram, length, 5, 6, ++cookie, server, filter, sizeof filter,
                           information, sizeof information, out, sizeof out).refusal;
 }
 
 /* A request that wants an interleaved answer, and has the oldest cookie of a full store. */
 static void call_header_write(void)
 {
-    ntp5_header h = {.mode = NTP5_REQUEST, .flags = INTERLEAVED, .server_cookie = cookie - RECORDS + 1};
-    refusal = ntp5_header_write(h, datagram, sizeof datagram);
+    ntp5_header h = {.mode = NTP5_REQUEST, .flags = edition == 1 ? 0x4 : 0x2, .server_cookie = cookie - RECORDS + 1};
+    refusal = ntp5_header_write(edition, h, datagram, sizeof datagram);
 }
 
-/* THE INPUTS. Each function makes its input number n, from 0 on, and gives the input's name, or NULL if there is none. */
+/*
+ * THE INPUTS. Each function makes its input number n, from 0 on, in `edition`, and gives the input's name, or NULL if there is
+ * none.
+ */
 
 static void stop(const char *why, size_t number)
 {
@@ -114,10 +118,12 @@ static void make_response(void)
     memcpy(datagram, out, length);
 }
 
-/* Sixteen associations whose filters are complete. */
+/* Sixteen associations whose filters are complete, as none is in edition 1. */
 static const char *complete(size_t n)
 {
     static const char *const names[] = {"none selected", "one selected", "all sixteen selected", NULL};
+    if (edition == 1)
+        return NULL;
     selected = n == 0 ? 0 : n == 1 ? 1 : 0xFFFF;
     closed(WHOLE);
     make(call_store_clear);
@@ -132,8 +138,7 @@ static const char *complete(size_t n)
 
 static const char *complete_filter(size_t n)
 {
-    complete(0);
-    return n == 0 ? "a complete filter" : NULL;
+    return n == 0 && complete(0) != NULL ? "a complete filter" : NULL;
 }
 
 /* The chains of fields: how many, and the kinds (see put) of the first, of those in the middle, and of the last two. */

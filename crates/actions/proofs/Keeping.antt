@@ -11,7 +11,7 @@ use Rattle.octets.specs.Number.{putAt}
 use Rattle.octets.specs.Part.{copyAt}
 use Rattle.words.specs.Line.{numberAt, bitsAt, octetsAt}
 use Rattle.store_rules.specs.Row.{wrongSize, storeOctets, sizeOf, cleared, reporting}
-use Rattle.responder_rules.specs.Answer.{Outcome, outcome, answerOf}
+use Rattle.responder_rules.specs.Answer.{Outcome, outcome, answerNamed}
 use Rattle.responder_rules.specs.declared.Answered.{Answered}
 use Rattle.responder_rules.specs.declared.Answered.the-variants.{Written, Refused}
 use Rattle.actions.specs.Given.{givenFrom}
@@ -27,16 +27,16 @@ module _ (line s s′ : List ℕ) where
   outcome-store (Refused n) out = refl
 
   -- the store of an answer, where its output was written
-  pub answered : (a : Answered) (request filter information out out′ : List ℕ) → out ≡ octetsAt line 16
-      → outcome a out′ s′ ≡ answerOf (givenFrom line request filter information) s out
-      → s′ ≡ answerOf (givenFrom line request filter information) s (octetsAt line 16) .store
+  pub answered : (a : Answered) (request filter information out out′ : List ℕ) → out ≡ octetsAt line 18
+      → outcome a out′ s′ ≡ answerNamed (bitsAt 8 line 1) (givenFrom line request filter information) s out
+      → s′ ≡ answerNamed (bitsAt 8 line 1) (givenFrom line request filter information) s (octetsAt line 18) .store
   answered a request filter information out out′ e z =
       outcome-store a out′ ∙ ap (λ (o : Outcome). o .store) z ∙ rw e
 
   -- and its other octets
   pub answered-all : (request filter information : List ℕ)
-      → request ≡ octetsAt line 1 → filter ≡ octetsAt line 14 → information ≡ octetsAt line 15
-      → s′ ≡ answerOf (givenFrom line request filter information) s (octetsAt line 16) .store → s′ ≡ storeAnswered line s
+      → request ≡ octetsAt line 2 → filter ≡ octetsAt line 16 → information ≡ octetsAt line 17
+      → s′ ≡ answerNamed (bitsAt 8 line 1) (givenFrom line request filter information) s (octetsAt line 18) .store → s′ ≡ storeAnswered line s
   unfolding storeAnswered
   answered-all request filter information e f g z = z ∙ rw (e, f, g)
 

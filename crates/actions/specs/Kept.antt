@@ -8,7 +8,7 @@ use Rattle.octets.specs.Number.{getAt, putAt}
 use Rattle.octets.specs.Part.{copyAt}
 use Rattle.words.specs.Line.{numberAt, bitsAt, octetsAt}
 use Rattle.store_rules.specs.Row.{cleared, reporting}
-use Rattle.responder_rules.specs.Answer.{answerOf}
+use Rattle.responder_rules.specs.Answer.{answerNamed}
 use Rattle.actions.specs.Given.{givenOf}
 
 -- the remainder only says that the store has its place
@@ -27,9 +27,9 @@ withStore n kept store = take 2 kept ++ (store ++ drop n (drop 2 kept))
 unfoldable pub storeReported : List ℕ → List ℕ → List ℕ
 storeReported line store = reporting store (numberAt line 1) (numberAt line 2) .1
 
--- answer REQUEST RECEIVE ESTIMATE FRESH, the server's values, FILTER INFORMATION OUTPUT
+-- answer EDITION REQUEST RECEIVE ESTIMATE FRESH, the server's values, FILTER INFORMATION OUTPUT; W204-1
 unfoldable pub storeAnswered : List ℕ → List ℕ → List ℕ
-storeAnswered line store = answerOf (givenOf line) store (octetsAt line 16) .store
+storeAnswered line store = answerNamed (bitsAt 8 line 1) (givenOf line) store (octetsAt line 18) .store
 
 unfoldable pub storeAfter : ℕ → List ℕ → List ℕ → List ℕ
 storeAfter call line store = cond (eqb call 17) (storeReported line store) (storeAnswered line store)

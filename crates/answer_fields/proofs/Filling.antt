@@ -8,7 +8,8 @@ use borrow.Author.Tests.{eqb-true, ltb-false, not-false}
 use lib.ListN.{length, take, length-append}
 use lib.Seq.{take-all, take-at, length-take-le}
 use Rattle.chain.specs.Content.{Content, chainOctets}
-use Rattle.chain.specs.Field.{fieldsOf}
+use Rattle.header.specs.declared.edition.Edition.{Edition}
+use Rattle.chain.specs.Field.{fieldsIn}
 use Rattle.field_role.specs.Role.{noneMet}
 use Rattle.chain.proofs.Contents.{chain-append, chain-fours}
 use Rattle.field_role.proofs.Roles.{met-none}
@@ -46,10 +47,10 @@ module _ (s filter information out : List ℕ) (right : wrongSizes s filter info
         same = eqb-true _ _ (not-false _ (three .1));
       }
 
-  abbrev answers : List Content
-  answers = answersWith s filter information noneMet (fieldsOf s)
+  abbrev answers : Edition → List Content
+  answers e = answersWith s filter information noneMet (fieldsIn e s)
 
-  module _ {m : List ℕ} {at : ℕ} (written : WrittenAt out 48 (chainOctets answers) at m) (most : at ≤ length s) where
+  module _ (e : Edition) {m : List ℕ} {at : ℕ} (written : WrittenAt out 48 (chainOctets (answers e)) at m) (most : at ≤ length s) where
     pub length-answered : length m ≡ length s
     length-answered =
         let p = written .place in
@@ -61,20 +62,20 @@ module _ (s filter information out : List ℕ) (right : wrongSizes s filter info
     left-fours =
         let p = written .place in
         let z = sizes in
-        let f = chain-fours answers in
+        let f = chain-fours (answers e) in
         omega arith
 
-    before-padding : take at m ≡ take 48 out ++ chainOctets answers
+    before-padding : take at m ≡ take 48 out ++ chainOctets (answers e)
     before-padding =
         let p = written .place in
         let z = sizes in
         let head = take 48 out in
-        let xs = chainOctets answers in
+        let xs = chainOctets (answers e) in
         let long : length head ≡ 48 = length-take-le 48 out (omega arith) in
         rw (written .content, take-all (length xs) xs (omega arith)) (take-at (head ++ xs) _ at (length-append head xs ∙ rw (long, p)))
 
-    pub filled : {n : List ℕ} → n ≡ take at m ++ chainOctets (paddingOf (length m - at)) → n ≡ fieldsWritten s filter information out
+    pub filled : {n : List ℕ} → n ≡ take at m ++ chainOctets (paddingOf (length m - at)) → n ≡ fieldsWritten e s filter information out
     unfolding answerFields fieldsWritten
     filled q =
-        let flags : answers ≡ answersTo s filter information [] (fieldsOf s) = rw (← met-none) (pass-answers s filter information [] (fieldsOf s)) in
-        q ∙ rw (right, before-padding, length-answered, written .place, ← flags, chain-append) (append-assoc (take 48 out) (chainOctets answers) _)
+        let flags : answers e ≡ answersTo s filter information [] (fieldsIn e s) = rw (← met-none) (pass-answers s filter information [] (fieldsIn e s)) in
+        q ∙ rw (right, before-padding, length-answered, written .place, ← flags, chain-append) (append-assoc (take 48 out) (chainOctets (answers e)) _)

@@ -1,16 +1,17 @@
-// The fields of an answer, R-16 to R-20: one pass over those of the request, then the padding.
+// The fields of an answer, R-16 to R-20: one pass over those of the request, which edition 1 leaves out (W204-14), then the padding.
 use chain::DRAFT_NAME;
 use chain::cursor::Cursor;
 use chain::cursor::Field;
 use chain::cursor::Step;
 use field_role::Role;
+use header::edition::Edition;
 ghost use mathlib.Core.Path.{_≡_};
 ghost use Prim.Native.Nat.{_+_, _-_, _%_, _≤_, min};
 ghost use mathlib.Core.List.{_++_};
 ghost use lib.ListN.{length, take};
 ghost use Rattle.chain.specs.Chain.{padded};
 ghost use Rattle.chain.specs.Content.{chainOctets};
-ghost use Rattle.chain.specs.Field.{fieldsFrom};
+ghost use Rattle.chain.specs.Field.{fieldsFrom, fieldsIn};
 ghost use Rattle.field_role.specs.Role.{noneMet, SizeAllowed};
 ghost use Rattle.field_write.specs.Write.{WrittenAt};
 ghost use Rattle.responder_rules.specs.Answer.{answerTo, paddingOf};
@@ -78,6 +79,25 @@ fn answers(request: &[u8], filter: &[u8], information: &[u8], out: &mut [u8]) ->
     at
 }
 
+// W204-14: the answers to the fields that the edition looks at; in edition 1 there is none.
+fn answers_in(
+    edition: Edition,
+    request: &[u8],
+    filter: &[u8],
+    information: &[u8],
+    out: &mut [u8],
+) -> usize
+    requires { ⌜ (length (now filter) ≡ 512) × (length (now information) ≡ 4) × (length (now request) ≤ length (now out)) × (48 ≤ length (now request)) ⌝ }
+    ensures { λ r. ⌜ WrittenAt (now (out .entry)) 48
+        (chainOctets (answersWith (now (request .entry)) (now (filter .entry)) (now (information .entry)) noneMet (fieldsIn edition (now (request .entry)))))
+        r (now (out .exit)) × (r ≤ length (now (request .entry))) ⌝ }
+{
+    match edition {
+        Edition::One => 48,
+        Edition::Seven => answers(request, filter, information, out),
+    }
+}
+
 // R-20: fills what is left.
 fn pad(out: &mut [u8], at: usize)
     requires { ⌜ (at ≤ length (now out)) × (length (now out) ≤ 1280) × ((length (now out) - at) % 4 ≡ 0) ⌝ }
@@ -90,8 +110,8 @@ fn pad(out: &mut [u8], at: usize)
 }
 
 // Writes what answers a request's fields after the 48 octets of the header, up to the request's length. Sizes that are wrong leave `out`.
-pub fn write(request: &[u8], filter: &[u8], information: &[u8], out: &mut [u8])
-    ensures { λ _. ⌜ now (out .exit) ≡ fieldsWritten (now (request .entry)) (now (filter .entry)) (now (information .entry)) (now (out .entry)) ⌝ }
+pub fn write(edition: Edition, request: &[u8], filter: &[u8], information: &[u8], out: &mut [u8])
+    ensures { λ _. ⌜ now (out .exit) ≡ fieldsWritten edition (now (request .entry)) (now (filter .entry)) (now (information .entry)) (now (out .entry)) ⌝ }
 {
     let n = request.len();
     if (filter.len() != 512)
@@ -101,6 +121,6 @@ pub fn write(request: &[u8], filter: &[u8], information: &[u8], out: &mut [u8])
     {
         return;
     }
-    let at = answers(request, filter, information, out);
+    let at = answers_in(edition, request, filter, information, out);
     pad(out, at);
 }

@@ -1,6 +1,6 @@
 -- What a response that was read from a datagram gives: numbers that fit, and a chunk of octets that lies in it. Assumes nothing.
-use mathlib.Core.Path.{_≡_, refl, _∙_}
-use mathlib.Core.Bool.{Bool, true, false, cond}
+use mathlib.Core.Path.{_≡_, refl, sym, _∙_}
+use mathlib.Core.Bool.{Bool, true, false, cond, true≢false}
 use mathlib.Core.List.{List, _++_}
 use Prim.Native.Nat.{ℕ, _+_, _^_, _≤_, _<_}
 use native.Mathlib.Omega.{arith}
@@ -12,13 +12,18 @@ use Rattle.octets.specs.Number.{Octets}
 use Rattle.octets.specs.Part.{copyAt}
 use Rattle.octets.proofs.Parts.{overwritten}
 use Rattle.octets.proofs.Written.{both-octets, take-octets, drop-octets}
+use Rattle.header.specs.Edition.{mostTimescale}
+use Rattle.header.specs.declared.edition.Edition.{Edition}
+use Rattle.header.specs.declared.edition.Edition.the-variants.{One, Seven}
 use Rattle.exchange.specs.Judging.{outcomeOf}
 use Rattle.exchange.specs.declared.response.Response.{Response}
 use Rattle.octets.proofs.Tests.{by-test}
 
--- a response's timescale and server cookie fit, and its chunk lies in the datagram, which is of octets
-pub record GoodResponse (r : Response) (datagram : List ℕ) : Type 0 where
-  pub timescale : r .timescale < 256
+-- a response's timescale is one that the edition holds, its server cookie fits, and its chunk lies in the datagram, which is of octets; in
+-- edition 1 there is none
+pub record GoodResponse (e : Edition) (r : Response) (datagram : List ℕ) : Type 0 where
+  pub timescale : r .timescale ≤ mostTimescale e
+  pub absent : e ≡ One → r .present ≡ false
   pub server : r .server .0 < 2 ^ 64
   pub inside : r .start + r .size ≤ length datagram
   pub octets : Octets datagram
@@ -32,17 +37,22 @@ taken-length r c = go (r .present) (eqb (r .size) c) refl
     go true false e t = let z : _≡_ {A = ℕ} 0 1 = cc in absurd (omega arith)
     go false b e t = let z : _≡_ {A = ℕ} 0 1 = cc in absurd (omega arith)
 
+-- and in edition 7 alone, W204-9
+pub seven-takes : (e : Edition) (r : Response) (datagram : List ℕ) (c : ℕ) → GoodResponse e r datagram → eqb (outcomeOf r c) 1 ≡ true → e ≡ Seven
+seven-takes Seven r datagram c k t = refl
+seven-takes One r datagram c k t = let z : _≡_ {A = Bool} false true = rw (k .absent refl) at t in absurd (true≢false (sym z))
+
 -- the response's chunk: its data octets
 abbrev pub chunkOctets : Response → List ℕ → List ℕ
 chunkOctets r datagram = take (r .size) (drop (r .start) datagram)
 
-pub length-chunk : (r : Response) (datagram : List ℕ) → GoodResponse r datagram → length (chunkOctets r datagram) ≡ r .size
+pub length-chunk : {e : Edition} (r : Response) (datagram : List ℕ) → GoodResponse e r datagram → length (chunkOctets r datagram) ≡ r .size
 length-chunk r datagram h =
     let i = h .inside in
     length-take (r .size) (drop (r .start) datagram) ∙ omega (arith, length-drop (r .start) datagram)
 
 -- the chunk goes to the offset of the request
-pub copied : (r : Response) (datagram f : List ℕ) (at c : ℕ) → length f ≡ 512 → at + c ≤ 512 → GoodResponse r datagram → r .size ≡ c
+pub copied : {e : Edition} (r : Response) (datagram f : List ℕ) (at c : ℕ) → length f ≡ 512 → at + c ≤ 512 → GoodResponse e r datagram → r .size ≡ c
     → copyAt f at datagram (r .start) c ≡ paste f at (chunkOctets r datagram) c
 copied r datagram f at c l h g e =
     let i = g .inside in

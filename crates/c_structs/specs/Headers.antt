@@ -1,5 +1,7 @@
 -- A header of the C interface and the core's, field by field.
+use Prim.Native.Nat.{ℕ}
 use lib.IntN.{pos}
+use Rattle.header.specs.Edition.{editionOf}
 use Rattle.header.specs.declared.Header as core
 use Rattle.header.specs.declared.Reading.{Reading}
 use Rattle.header.specs.declared.Reading.the-variants.{Fields, Refused}
@@ -15,6 +17,7 @@ ofHeader h = record {
   precision = h .precision;
   timescale = h .timescale;
   era = h .era;
+  «timescale_offset» = h .«timescale_offset»;
   flags = h .flags;
   «root_delay» = h .«root_delay»;
   «root_dispersion» = h .«root_dispersion»;
@@ -34,6 +37,7 @@ noHeader = record {
   precision = pos 0;
   timescale = 0;
   era = 0;
+  «timescale_offset» = pos 0;
   flags = 0;
   «root_delay» = 0;
   «root_dispersion» = 0;
@@ -47,8 +51,10 @@ abbrev pub readOf : Reading → Read
 readOf (Fields h) = record { refusal = 0; header = ofHeader h }
 readOf (Refused n) = record { refusal = n; header = noHeader }
 
-abbrev pub coreHeader : Header → core.Header
-coreHeader h = record {
+-- of the edition of a number
+abbrev pub coreHeader : ℕ → Header → core.Header
+coreHeader n h = record {
+  edition = editionOf n;
   leap = h .leap;
   mode = h .mode;
   stratum = h .stratum;
@@ -56,6 +62,7 @@ coreHeader h = record {
   precision = h .precision;
   timescale = h .timescale;
   era = h .era;
+  «timescale_offset» = h .«timescale_offset»;
   flags = h .flags;
   «root_delay» = h .«root_delay»;
   «root_dispersion» = h .«root_dispersion»;

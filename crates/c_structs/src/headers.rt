@@ -1,7 +1,8 @@
-// A header as C has it: its cookies are plain numbers, which the core keeps in two types.
+// A header as C has it: its cookies are plain numbers, which the core keeps in two types, and its edition is an argument of the calls.
 use header::ClientCookie;
 use header::Reading;
 use header::ServerCookie;
+use header::edition::edition_of;
 ghost use mathlib.Core.Path.{_≡_};
 ghost use Rattle.c_structs.specs.Headers.{ofHeader, noHeader, readOf, coreHeader};
 
@@ -14,6 +15,7 @@ pub struct Header {
     pub precision: i8,
     pub timescale: u8,
     pub era: u8,
+    pub timescale_offset: i16,
     pub flags: u16,
     pub root_delay: u32,
     pub root_dispersion: u32,
@@ -42,6 +44,7 @@ fn of_header(header: header::Header) -> Header
         precision: header.precision,
         timescale: header.timescale,
         era: header.era,
+        timescale_offset: header.timescale_offset,
         flags: header.flags,
         root_delay: header.root_delay,
         root_dispersion: header.root_dispersion,
@@ -64,6 +67,7 @@ fn no_header() -> Header
         precision: 0,
         timescale: 0,
         era: 0,
+        timescale_offset: 0,
         flags: 0,
         root_delay: 0,
         root_dispersion: 0,
@@ -89,12 +93,15 @@ pub fn read_of(reading: Reading) -> Read
     }
 }
 
-pub fn core_header(fields: Header) -> header::Header
-    ensures { λ r. ⌜ r ≡ coreHeader fields ⌝ }
+// The edition is named by its number.
+pub fn core_header(edition: u8, fields: Header) -> header::Header
+    ensures { λ r. ⌜ r ≡ coreHeader edition fields ⌝ }
 {
+    let edition = edition_of(edition as u64);
     let server_cookie = ServerCookie(fields.server_cookie);
     let client_cookie = ClientCookie(fields.client_cookie);
     header::Header {
+        edition,
         leap: fields.leap,
         mode: fields.mode,
         stratum: fields.stratum,
@@ -102,6 +109,7 @@ pub fn core_header(fields: Header) -> header::Header
         precision: fields.precision,
         timescale: fields.timescale,
         era: fields.era,
+        timescale_offset: fields.timescale_offset,
         flags: fields.flags,
         root_delay: fields.root_delay,
         root_dispersion: fields.root_dispersion,

@@ -32,16 +32,16 @@ fn run_file(rows: &[u8]) {
 // The rows of the calls, with each word's letter (crate rows) and the form of the result line (crate print).
 fn main() {
     let rows =
-        b"header bI %r leap=%d mode=%d stratum=%d poll=%i precision=%i timescale=%d era=%d flags=0x%h \
-        root_delay=0x%w root_dispersion=0x%w server_cookie=0x%q client_cookie=0x%q receive=0x%q transmit=0x%q\n\
-        write bbbssbbhwwqqqqO %d %o\n\
+        b"header bbI %r leap=%d mode=%d stratum=%d poll=%i precision=%i timescale=%d era=%d flags=0x%h \
+        root_delay=0x%w root_dispersion=0x%w server_cookie=0x%q client_cookie=0x%q receive=0x%q transmit=0x%q timescale_offset=%i\n\
+        write bbbbssbbhwwqqqqtO %d %o\n\
         sound bI %d\n\
         add OI %d %o\n\
         union OI %d %o\n\
         weight I %r %d\n\
         measure qqqq %d %i %d\n\
         clear - %d\n\
-        open bbh %d\n\
+        open bbbh %d\n\
         close b %d\n\
         poll bqsmO %r %d %o\n\
         sent bq %d\n\
@@ -51,7 +51,7 @@ fn main() {
         store b %d\n\
         lend I %o\n\
         report qq %d %o\n\
-        answer IqqqbbssbbhwwIIO %r %d %o\n";
+        answer bIqqqbbssbbhwwtIIO %r %d %o\n";
     match os::arg_count() {
         0 | 1 => input::run_all(libc::STDIN_FILENO, b"standard input", rows),
         2 => run_file(rows),

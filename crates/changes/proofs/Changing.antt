@@ -27,10 +27,10 @@ module _ (line : List ℕ) (call : ℕ) where
   unfolding changeOf
   change-clear k = rw k
 
-  pub change-open : (a timescale c : ℕ) → call ≡ 8 → a ≡ bitsAt 8 line 1 → timescale ≡ bitsAt 8 line 2 → c ≡ bitsAt 16 line 3
-      → openOne a timescale c ≡ changeOf call line
+  pub change-open : (a edition timescale c : ℕ) → call ≡ 8 → a ≡ bitsAt 8 line 1 → edition ≡ bitsAt 8 line 2 → timescale ≡ bitsAt 8 line 3 → c ≡ bitsAt 16 line 4
+      → openOne a edition timescale c ≡ changeOf call line
   unfolding changeOf
-  change-open a timescale c k f g h = rw (k, f, g, h)
+  change-open a edition timescale c k f e g h = rw (k, f, e, g, h)
 
   pub change-close : (a : ℕ) → call ≡ 9 → a ≡ bitsAt 8 line 1 → closeOne a ≡ changeOf call line
   unfolding changeOf

@@ -20,11 +20,11 @@ pollOf line = poll (bitsAt 8 line 1) (numberAt line 2) (signedAt line 3) (interl
 unfoldable pub receiveOf : List ℕ → Call
 receiveOf line = receive (bitsAt 8 line 1) (octetsAt line 3) (numberAt line 2)
 
--- clear; open A TIMESCALE C; close A; sent A T1
+-- clear; open A EDITION TIMESCALE C; close A; sent A T1
 unfoldable pub changeOf : ℕ → List ℕ → Call
 changeOf call line =
     cond (eqb call 7) clearTable
-    (cond (eqb call 8) (openOne (bitsAt 8 line 1) (bitsAt 8 line 2) (bitsAt 16 line 3))
+    (cond (eqb call 8) (openOne (bitsAt 8 line 1) (bitsAt 8 line 2) (bitsAt 8 line 3) (bitsAt 16 line 4))
     (cond (eqb call 9) (closeOne (bitsAt 8 line 1))
     (sent (bitsAt 8 line 1) (numberAt line 2))))
 

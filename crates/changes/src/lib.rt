@@ -32,7 +32,13 @@ fn change(call: usize, line: &[u8], table: &mut [u64]) -> u8
     let first = u8_at(line, 1);
     match call {
         7 => client::clear(table),
-        8 => client::open(table, first, u8_at(line, 2), u16_at(line, 3)),
+        8 => client::open(
+            table,
+            first,
+            u8_at(line, 2),
+            u8_at(line, 3),
+            u16_at(line, 4),
+        ),
         9 => client::close(table, first),
         _ => client::sent(table, first, u64_at(line, 2)),
     }

@@ -7,8 +7,8 @@ use native.Mathlib.Omega.{arith}
 use borrow.Author.Tests.{eqb-false, ltb-false}
 use lib.Dec.{eqb, ltb}
 use lib.ListN.{length, drop}
-use Rattle.poll_request.specs.Request.{pollLength}
-use Rattle.poll_request.proofs.Requests.{Writable}
+use Rattle.header.specs.Edition.{editionOf}
+use Rattle.poll_request.specs.Request.{pollLength, Writable}
 use Rattle.state.specs.Range.{inRange}
 use Rattle.word_rules.specs.Words.{octetsOf}
 use Rattle.association.specs.Record.{headOf, headSize, recordSize}
@@ -27,7 +27,7 @@ use Rattle.octets.proofs.Tests.{by-test}
 
 module _ (cookie : ℕ) (interleaved : Bool) (room : ℕ) where
   abbrev Fits : Reply → Type 0
-  Fits r = r .refusal ≡ 0 → Writable (r .asked .chunk) room
+  Fits r = r .refusal ≡ 0 → Writable (r .asked) room
 
   abbrev ReplyFits : Reply × Place → Type 0
   ReplyFits w = Fits (w .0)
@@ -37,10 +37,11 @@ module _ (cookie : ℕ) (interleaved : Bool) (room : ℕ) where
   head-room h datagram f g =
       by-test (λ (p : Place). Fits (placeDo (Poll (record { 0 = cookie }) interleaved room) datagram p .0)) (eqb (h .state) 0) (λ t z. absurd (omega arith))
       (λ t. by-test ReplyFits (eqb cookie 0 || isLast cookie (cookieIn (h .last .0))) (λ u z. absurd (omega arith))
-      (λ u. by-test ReplyFits (ltb room (pollLength (h .chunk))) (λ v z. absurd (omega arith))
+      (λ u. by-test ReplyFits (ltb room (pollLength (editionOf (h .state)) (h .chunk))) (λ v z. absurd (omega arith))
       (λ v z.
-      let size = chunk-size (h .chunk) (open-ranges h g (eqb-false _ _ t) .chunk) in
-      record { least = size .low; most = size .high; four = size .fours; fits = ltb-false _ _ v })))
+      let o = open-ranges h g (eqb-false _ _ t) in
+      let size = chunk-size (h .chunk) (o .chunk) in
+      record { least = size .low; most = size .high; four = size .fours; held = o .timescale; fits = ltb-false _ _ v })))
 
   record-room : (datagram l : List ℕ) → Fits (onNumbers (Poll (record { 0 = cookie }) interleaved room) datagram l .0)
   unfolding onNumbers decode

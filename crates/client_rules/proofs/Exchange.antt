@@ -9,6 +9,7 @@ use lib.ListN.{length, replicate}
 use Rattle.octets.specs.Number.{Octets, num}
 use Rattle.octets.proofs.Written.{zeros-octets, small-octets}
 use Rattle.header.specs.Header.{headerOf, refusal}
+use Rattle.header.specs.declared.edition.Edition.the-variants.{Seven}
 use Rattle.chain.specs.Chain.{allZero, stepAt, walkFor, walk, chainRefusal, soundRefusal}
 use Rattle.state.specs.Plain.{newlyOpened, polled, placeDo}
 use Rattle.order.specs.Order.{TaggedCall, after, EveryCall}
@@ -41,16 +42,16 @@ tagged n c = record { tag = n; call = c }
 
 -- opening and a poll
 abbrev pub asking : List (TaggedCall Call)
-asking = tagged 0 (openOne 0 0 16) ∷ tagged 1 (poll 0 1 (pos 0) false room) ∷ []
+asking = tagged 0 (openOne 0 7 0 16) ∷ tagged 1 (poll 0 1 (pos 0) false room) ∷ []
 
 pub asking-typed : EveryCall Typed asking
-asking-typed = ((omega arith, omega arith, omega arith), ((omega arith, omega arith, record { sfits = omega arith }, zeros-octets 100), tt))
+asking-typed = ((omega arith, omega arith, omega arith, omega arith), ((omega arith, omega arith, record { sfits = omega arith }, zeros-octets 100), tt))
 
 -- whose response may be accepted
 pub acceptable : Acceptable (placeAfter asking 0) (datagram 1 0)
 unfolding after eventOn placeDo num headerOf refusal allZero stepAt walkFor walk chainRefusal soundRefusal
 acceptable = record {
-  place = polled 1 false (newlyOpened 0 16);
+  place = polled 1 false (newlyOpened Seven 0 16);
   open-sender = refl;
   request = record { client = 1; server = 0; offset = 0; t1 = 0 };
   outstanding = refl;

@@ -12,6 +12,7 @@ use lib.Seq.{take-at, drop-at}
 use Rattle.octets.specs.Number.{num}
 use Rattle.octets.proofs.Written.{zeros-octets}
 use Rattle.header.specs.Header.{headerOf, refusal}
+use Rattle.header.specs.declared.edition.Edition.the-variants.{Seven}
 use Rattle.chain.specs.Chain.{allZero, stepAt, walkFor, walk, chainRefusal, soundRefusal}
 use Rattle.chain.specs.Field.{firstOf}
 use Rattle.exchange.specs.Response.{responseOf}
@@ -37,7 +38,7 @@ use Rattle.client_rules.proofs.Exchange.{zeros, size, datagram, datagra
 -- a call that is done as ours does it: no response to an association that took a chunk
 abbrev AsOurs : Call → List Place → Type 0
 AsOurs clearTable ps = Unit {0}
-AsOurs (openOne a timescale c) ps = Unit {0}
+AsOurs (openOne a edition timescale c) ps = Unit {0}
 AsOurs (closeOne a) ps = Unit {0}
 AsOurs (poll a cookie exponent interleaved out) ps = Unit {0}
 AsOurs (sent a t1) ps = Unit {0}
@@ -57,7 +58,7 @@ taken-at ps a g h =
 
 as-ours : (c : Call) (ps : List Place) (u : List ℕ) → GoodTable ps → AsOurs c ps → firstPlaced c (encodeAll ps) u ≡ u
 as-ours clearTable ps u g h = refl
-as-ours (openOne a timescale c) ps u g h = refl
+as-ours (openOne a edition timescale c) ps u g h = refl
 as-ours (closeOne a) ps u g h = refl
 as-ours (poll a cookie exponent interleaved out) ps u g h = refl
 as-ours (sent a t1) ps u g h = refl
@@ -104,7 +105,7 @@ filter-kept ps qs g k =
 -- two polls and their responses; the second one's chunk begins with 1, and goes to offset 16
 abbrev before : List (TaggedCall Call)
 before =
-    tagged 0 (openOne 0 0 16) ∷ tagged 1 (poll 0 1 (pos 0) false room) ∷ tagged 2 (receive 0 (datagram 1 0) 1) ∷ tagged 3 (poll 0 2 (pos 0) false room) ∷ []
+    tagged 0 (openOne 0 7 0 16) ∷ tagged 1 (poll 0 1 (pos 0) false room) ∷ tagged 2 (receive 0 (datagram 1 0) 1) ∷ tagged 3 (poll 0 2 (pos 0) false room) ∷ []
 
 abbrev second : TaggedCall Call
 second = tagged 4 (receive 0 (datagram 2 1) 1)
@@ -113,10 +114,10 @@ abbrev request : ℕ → ℕ → Outstanding
 request cookie at = record { client = cookie; server = 0; offset = at; t1 = 0 }
 
 abbrev once : Opened
-once = received (responseOf (datagram 1 0) 1) (datagram 1 0) (polled 1 false (newlyOpened 0 16)) (request 1 0)
+once = received (responseOf Seven (datagram 1 0) 1) (datagram 1 0) (polled 1 false (newlyOpened Seven 0 16)) (request 1 0)
 
 abbrev twice : Opened
-twice = received (responseOf (datagram 2 1) 1) (datagram 2 1) (polled 2 false once) (request 2 16)
+twice = received (responseOf Seven (datagram 2 1) 1) (datagram 2 1) (polled 2 false once) (request 2 16)
 
 before-place : placeAfter before 0 ≡ opened (polled 2 false once)
 unfolding after eventOn placeDo num headerOf refusal allZero stepAt walkFor walk chainRefusal soundRefusal firstOf responseOf
@@ -149,7 +150,7 @@ poll-typed cookie h = (omega arith, omega arith, record { sfits = omega arith },
 
 before-typed : EveryCall Typed before
 before-typed =
-    ((omega arith, omega arith, omega arith), (poll-typed 1 (omega arith), ((omega arith, datagram-octets .0, omega arith), (poll-typed 2 (omega arith), tt))))
+    ((omega arith, omega arith, omega arith, omega arith), (poll-typed 1 (omega arith), ((omega arith, datagram-octets .0, omega arith), (poll-typed 2 (omega arith), tt))))
 
 second-typed : Typed (second .call)
 second-typed = (omega arith, datagram-octets .1, omega arith)

@@ -7,6 +7,7 @@ use native.Mathlib.Omega.{arith}
 use lib.ListN.{getD}
 use Rattle.octets.specs.Among.{among}
 use Rattle.octets.proofs.Written.{zeros-octets}
+use Rattle.header.specs.declared.edition.Edition.the-variants.{Seven}
 use Rattle.state.specs.Plain.{Place, closed, opened, newlyOpened, placeDo}
 use Rattle.order.specs.Order.{TaggedCall, after, Independent}
 use Rattle.order.proofs.Reorder.{reordered-answers, reordered-end}
@@ -24,10 +25,10 @@ abbrev answering : Call
 answering = receive 0 (datagram 1 0) 1
 
 -- the plain table shows an opening
-opening-shows : after stepPlain (tagged 0 (openOne 0 0 16) ∷ []) closedTable ≡ after stepPlain [] closedTable → ⊥
+opening-shows : after stepPlain (tagged 0 (openOne 0 7 0 16) ∷ []) closedTable ≡ after stepPlain [] closedTable → ⊥
 unfolding after eventOn placeDo
 opening-shows e =
-    let p : opened (newlyOpened 0 16) ≡ closed = ap (λ (ps : List Place). getD ps 0 closed) e in
+    let p : opened (newlyOpened Seven 0 16) ≡ closed = ap (λ (ps : List Place). getD ps 0 closed) e in
     let f : _≡_ {A = ℕ} 0 1 = cc in
     omega arith
 
@@ -67,9 +68,9 @@ module _ (step : Client) where
   -- opening leaves the table as it was, and so would no opening
   losing-all : StoresNothing step → NothingLostFor step → ⊥
   losing-all s f =
-      let opening = tagged 0 (openOne 0 0 16) ∷ [] in
+      let opening = tagged 0 (openOne 0 7 0 16) ∷ [] in
       let same : reachedBy step zeros opening ≡ reachedBy step zeros [] = stays s opening (clearedBy step zeros) ∙ sym (stays s [] (clearedBy step zeros)) in
-      opening-shows (f zeros zeros size size opening [] ((omega arith, omega arith, omega arith), tt) tt same)
+      opening-shows (f zeros zeros size size opening [] ((omega arith, omega arith, omega arith, omega arith), tt) tt same)
 
 pub idle-rejected : IdleRejected
 idle-rejected =
@@ -96,7 +97,7 @@ unchanging = record { invariant = λ c t ty g. tt; commute = λ x y t n tx ty g.
 -- 6 concerns every call
 six : (c : Call) → among 6 (refusalsOf c) ≡ true
 six clearTable = refl
-six (openOne a timescale c) = refl
+six (openOne a edition timescale c) = refl
 six (closeOne a) = refl
 six (poll a cookie exponent interleaved out) = refl
 six (sent a t1) = refl

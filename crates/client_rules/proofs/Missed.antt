@@ -9,7 +9,7 @@ use lib.IntN.{ℤ}
 use lib.ListN.{length, drop, take}
 use lib.Seq.{take-at}
 use Rattle.octets.proofs.Tests.{by-test}
-use Rattle.header.specs.Header.{headerOf}
+use Rattle.header.specs.Header.{headerOf, serverCookieOf}
 use Rattle.header.specs.declared.Header.{Header}
 use Rattle.poll_request.specs.Request.{pollOctets, pollLength}
 use Rattle.poll_request.specs.declared.Asked.{Asked}
@@ -23,7 +23,7 @@ use Rattle.state.specs.declared.event.Reply.{Reply}
 use Rattle.state.specs.declared.head.Head.{Head}
 use Rattle.state.proofs.Chunks.{chunk-size}
 use Rattle.state.proofs.Missed.{counted-cookie}
-use Rattle.association.proofs.Reached.{GoodPlace, GoodOpened, ranges, sent-fits}
+use Rattle.association.proofs.Reached.{GoodPlace, GoodOpened, ranges, timescale-held, sent-fits}
 use Rattle.order.specs.Order.{after}
 use Rattle.client_rules.specs.Call.{Call, poll, Typed, Answer, pollAnswer}
 use Rattle.client_rules.specs.Plain.{closedTable, stepPlain}
@@ -46,7 +46,7 @@ module _ (a : ℕ) (seen : List Observation) (k : ℕ) (exponent : ℤ) (interle
 
   -- what has to hold of an answer: where it is no refusal, the server cookie is the observer's
   abbrev Sends : Answer → Type 0
-  Sends w = w .refusal ≡ 0 → headerOf (writtenBy w) .«server_cookie» .0
+  Sends w = w .refusal ≡ 0 → serverCookieOf (writtenBy w)
       ≡ cond (interleaved && ltb (observedMissed a (entry pollCall w ∷ seen)) 4) (observedServer a seen) 0
 
   abbrev Answers : Reply × Place → Type 0
@@ -54,21 +54,20 @@ module _ (a : ℕ) (seen : List Observation) (k : ℕ) (exponent : ℤ) (interle
 
   accepted-sends : (o : Opened) → GoodOpened o → Watching o a seen
       → Answers (placeDo event [] (opened o))
-  unfolding placeDo pollsSince
+  unfolding placeDo pollsSince headerOf
   accepted-sends o g h =
       by-test Answers (eqb k 0 || isLast k (o .last)) (λ t z. absurd (omega arith))
-      (λ t. by-test Answers (ltb (length out) (pollLength (o .chunk))) (λ u z. absurd (omega arith))
+      (λ t. by-test Answers (ltb (length out) (pollLength (o .edition) (o .chunk))) (λ u z. absurd (omega arith))
       (λ u z.
-      let q : Asked = record { timescale = o .timescale; chunk = o .chunk; offset = o .next; server = record { 0 = sentCookie interleaved o } } in
+      let q : Asked = record { edition = o .edition; timescale = o .timescale; chunk = o .chunk; offset = o .next; server = record { 0 = sentCookie interleaved o } } in
       let size = chunk-size (o .chunk) (ranges o g .chunk) in
       let low = size .low in
-      let four = size .fours in
-      let long : length (pollOctets q k exponent interleaved) ≡ pollLength (o .chunk) = omega (arith, length-pollOctets q k exponent interleaved (omega arith)) in
-      let written : take (pollLength (o .chunk)) (pollOctets q k exponent interleaved ++ drop (pollLength (o .chunk)) out) ≡ pollOctets q k exponent interleaved =
-      take-at (pollOctets q k exponent interleaved) (drop (pollLength (o .chunk)) out) (pollLength (o .chunk)) long in
+      let long : length (pollOctets q k exponent interleaved) ≡ pollLength (o .edition) (o .chunk) = length-pollOctets q k exponent interleaved (omega arith) (size .fours) in
+      let written : take (pollLength (o .edition) (o .chunk)) (pollOctets q k exponent interleaved ++ drop (pollLength (o .edition) (o .chunk)) out) ≡ pollOctets q k exponent interleaved =
+      take-at (pollOctets q k exponent interleaved) (drop (pollLength (o .edition) (o .chunk)) out) (pollLength (o .edition) (o .chunk)) long in
       let replaced : pollsSince a seen + 1 - 1 ≡ pollsSince a seen = omega arith in
-      ap (λ (s : List ℕ). headerOf s .«server_cookie» .0) written
-      ∙ ap (λ (x : Header). x .«server_cookie» .0) (poll-header-read q k exponent interleaved (ranges o g .timescale) (ty .2) (ty .1) (sent-fits o g interleaved))
+      ap serverCookieOf written
+      ∙ ap (λ (x : Header). x .«server_cookie» .0) (poll-header-read q k exponent interleaved (timescale-held o g) (ty .2) (ty .1) (sent-fits o g interleaved))
       ∙ counted-cookie interleaved o (h .counted)
       ∙ rw (itself a, replaced)))
 

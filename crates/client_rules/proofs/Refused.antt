@@ -13,7 +13,7 @@ use Rattle.chain.proofs.Refusals.{sound-number}
 use Rattle.header.specs.Header.{refusal}
 use Rattle.exchange.proofs.Responses.{response-sound}
 use Rattle.poll_request.specs.Request.{pollLength}
-use Rattle.state.specs.Rules.{offered}
+use Rattle.state.specs.Rules.{openable}
 use Rattle.state.specs.Range.{inRange}
 use Rattle.state.specs.Plain.{Place, closed, opened, isLast, placeDo}
 use Rattle.state.specs.declared.event.Event.{Event}
@@ -27,14 +27,14 @@ use Rattle.state.proofs.Refused.{by-request}
 use Rattle.client_rules.specs.Call.{Call, clearTable, openOne, closeOne, poll, sent, receive, loopVerdict, publish, Answer, plainAnswer, refusalAnswer, pollAnswer, receiveAnswer}
 use Rattle.client_rules.specs.Select.{Seen, wrongId, allSelected, inRangeSeen, completeSeen, verdictFor, publishFor}
 use Rattle.client_rules.specs.Step.{eventOn, clearing, publishing}
-use Rattle.client_rules.specs.Numbers.{tableSize, part, putPart, atNumbers, seenNumbers}
+use Rattle.client_rules.specs.Numbers.{tableSize, part, putPart, editionAt, atNumbers, seenNumbers}
 use Rattle.client_rules.specs.Refused.{lent, refusalsOf, RefusedCall, Refusals}
 
 -- ---- the refusals
 
 -- the refusals that concern an event, but 6
 abbrev laterOf : Event → List ℕ
-laterOf (Open timescale c) = 7 ∷ []
+laterOf (Open edition timescale c) = 7 ∷ []
 laterOf Close = 7 ∷ []
 laterOf (Poll cookie interleaved room) = 7 ∷ 8 ∷ 11 ∷ []
 laterOf (Sent t1) = 7 ∷ []
@@ -43,7 +43,7 @@ laterOf Look = 7 ∷ []
 
 -- an event that brings no other number with it
 abbrev Known : Event → Type 0
-Known (Open timescale c) = Unit {0}
+Known (Open edition timescale c) = Unit {0}
 Known Close = Unit {0}
 Known (Poll cookie interleaved room) = Unit {0}
 Known (Sent t1) = Unit {0}
@@ -56,14 +56,14 @@ Answers e w = among (w .0 .refusal) (0 ∷ 6 ∷ laterOf e) ≡ true
 
 place-answers : (e : Event) (datagram : List ℕ) (p : Place) → Known e → Answers e (placeDo e datagram p)
 unfolding placeDo
-place-answers (Open timescale c) datagram closed k = by-test (Answers (Open timescale c)) (offered c) (λ x. refl) (λ x. refl)
-place-answers (Open timescale c) datagram (opened o) k = by-test (Answers (Open timescale c)) (offered c) (λ x. refl) (λ x. refl)
+place-answers (Open edition timescale c) datagram closed k = by-test (Answers (Open edition timescale c)) (openable edition timescale c) (λ x. refl) (λ x. refl)
+place-answers (Open edition timescale c) datagram (opened o) k = by-test (Answers (Open edition timescale c)) (openable edition timescale c) (λ x. refl) (λ x. refl)
 place-answers Close datagram closed k = refl
 place-answers Close datagram (opened o) k = refl
 place-answers (Poll cookie interleaved room) datagram closed k = refl
 place-answers (Poll cookie interleaved room) datagram (opened o) k =
     by-test (Answers (Poll cookie interleaved room)) (eqb (cookie .0) 0 || isLast (cookie .0) (o .last)) (λ x. refl)
-    (λ x. by-test (Answers (Poll cookie interleaved room)) (ltb room (pollLength (o .chunk))) (λ y. refl) (λ y. refl))
+    (λ x. by-test (Answers (Poll cookie interleaved room)) (ltb room (pollLength (o .edition) (o .chunk))) (λ y. refl) (λ y. refl))
 place-answers (Sent t1) datagram closed k = by-test (Answers (Sent t1)) (eqb t1 0) (λ x. refl) (λ x. refl)
 place-answers (Sent t1) datagram (opened o) k =
     by-test (Answers (Sent t1)) (eqb t1 0) (λ x. refl)
@@ -170,14 +170,14 @@ unfolding clearing publishing
 refusals clearTable t =
     by-test (λ (w : Answer × List ℕ). (w .0 .refusal ≡ 0 → ⊥) → RefusedCall clearTable t w) (eqb (length t) tableSize)
     (λ x n. absurd (n refl)) (λ x n. plain-refused clearTable t 6 refl)
-refusals (openOne a timescale c) t = event-refused _ a _ [] refusalAnswer t tt refl plainly-refusal
+refusals (openOne a edition timescale c) t = event-refused _ a _ [] refusalAnswer t tt refl plainly-refusal
 refusals (closeOne a) t = event-refused _ a _ [] refusalAnswer t tt refl plainly-refusal
 refusals (poll a cookie exponent interleaved out) t =
     event-refused (poll a cookie exponent interleaved out) a _ [] (pollAnswer cookie exponent interleaved out) t tt refl
     (record { number = λ r. number-of (r .refusal) _ out refl; plain = λ r n. plain-of (r .refusal) _ out n })
 refusals (sent a t1) t = event-refused _ a _ [] refusalAnswer t tt refl plainly-refusal
 refusals (receive a datagram t4) t =
-    event-refused _ a _ datagram receiveAnswer t (rw (response-sound datagram t4) (sound-number (λ (n : ℕ). among n (0 ∷ refusalsOf (receive a datagram t4)) ≡ true) refl refl refl refl refl refl refl datagram 4)) refl plainly-receive
+    event-refused _ a _ datagram receiveAnswer t (rw (response-sound (editionAt a t) datagram t4) (sound-number (λ (n : ℕ). among n (0 ∷ refusalsOf (receive a datagram t4)) ≡ true) refl refl refl refl refl refl refl datagram 4)) refl plainly-receive
 refusals (loopVerdict a id) t = verdict-refused a id t (seenNumbers t a) (kept-at a Look [] t tt .number)
 refusals (publish selected id out) t =
     by-test (IfRefused (publish selected id out) t) (eqb (length t) tableSize)

@@ -35,7 +35,7 @@ withFilter a t u = putPart a u (take headSize (part a u) ++ drop headSize (part 
 
 abbrev pub firstPlaced : Call → List ℕ → List ℕ → List ℕ
 firstPlaced clearTable t u = u
-firstPlaced (openOne a timescale c) t u = u
+firstPlaced (openOne a edition timescale c) t u = u
 firstPlaced (closeOne a) t u = u
 firstPlaced (poll a cookie exponent interleaved out) t u = u
 firstPlaced (sent a t1) t u = u

@@ -7,7 +7,7 @@ use Prim.Native.Nat.{ℕ, _+_, _-_, _<_, min}
 use lib.Dec.{ltb}
 use lib.IntN.{ℤ}
 use lib.ListN.{length}
-use Rattle.header.specs.Header.{headerOf}
+use Rattle.header.specs.Header.{serverCookieOf}
 use Rattle.state.specs.Plain.{Opened, opened}
 use Rattle.association.specs.Record.{headOf}
 use Rattle.order.specs.Order.{TaggedCall, EveryCall}
@@ -21,7 +21,7 @@ use Rattle.client_rules.specs.Claim.{Client, clearedBy, reachedBy, refus
 -- how many polls of a were accepted since its last accepted response or its opening
 abbrev pub pollsBy : ℕ → Call → Answer → ℕ → ℕ
 pollsBy a clearTable w before = before
-pollsBy a (openOne b timescale c) w before = cond (succeeded a b w) 0 before
+pollsBy a (openOne b edition timescale c) w before = cond (succeeded a b w) 0 before
 pollsBy a (closeOne b) w before = before
 pollsBy a (poll b cookie exponent interleaved out) w before = cond (succeeded a b w) (before + 1) before
 pollsBy a (sent b t1) w before = before
@@ -40,11 +40,11 @@ observedMissed a seen = min 8 (pollsSince a seen - 1)
 -- C-10: the server cookie of a's last accepted response since its opening; 0 if there is none
 abbrev pub serverBy : ℕ → Call → Answer → ℕ → ℕ
 serverBy a clearTable w before = before
-serverBy a (openOne b timescale c) w before = cond (succeeded a b w) 0 before
+serverBy a (openOne b edition timescale c) w before = cond (succeeded a b w) 0 before
 serverBy a (closeOne b) w before = before
 serverBy a (poll b cookie exponent interleaved out) w before = before
 serverBy a (sent b t1) w before = before
-serverBy a (receive b datagram t4) w before = cond (succeeded a b w) (headerOf datagram .«server_cookie» .0) before
+serverBy a (receive b datagram t4) w before = cond (succeeded a b w) (serverCookieOf datagram) before
 serverBy a (loopVerdict b id) w before = before
 serverBy a (publish selected id out) w before = before
 
@@ -73,7 +73,7 @@ pub record Missed (step : Client) (t : List ℕ) (cs : List (TaggedCall Call)) (
   -- request that it replaces counted, is below 4
   pub cookie : (k : ℕ) (exponent : ℤ) (interleaved : Bool) (out : List ℕ) → Typed (poll a k exponent interleaved out)
       → refusalBy step (poll a k exponent interleaved out) (reachedBy step t cs) ≡ 0
-      → headerOf (writtenBy (step (poll a k exponent interleaved out) (reachedBy step t cs) .0)) .«server_cookie» .0
+      → serverCookieOf (writtenBy (step (poll a k exponent interleaved out) (reachedBy step t cs) .0))
       ≡ cond (interleaved && ltb (observedMissed a (pollAfter step t cs (poll a k exponent interleaved out) ∷ seenBy step t cs)) 4)
       (observedServer a (seenBy step t cs)) 0
 

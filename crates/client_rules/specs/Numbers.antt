@@ -4,6 +4,8 @@ use Prim.Native.Nat.{ℕ, _+_, _*_, _≤_}
 use lib.Dec.{eqb}
 use lib.ListN.{length, getD, take, drop, replicate}
 use Rattle.word_rules.specs.Words.{octetsOf}
+use Rattle.header.specs.Edition.{editionOf}
+use Rattle.header.specs.declared.edition.Edition.{Edition}
 use Rattle.state.specs.Plain.{Place}
 use Rattle.association.specs.Record.{headSize, recordSize}
 use Rattle.association.specs.Encode.{encode}
@@ -29,6 +31,10 @@ part a t = take recordSize (drop (a * recordSize) t)
 abbrev pub putPart : ℕ → List ℕ → List ℕ → List ℕ
 putPart a t l = take (a * recordSize) t ++ (l ++ drop (a * recordSize + recordSize) t)
 
+-- its edition, by the first number of its record
+abbrev pub editionAt : ℕ → List ℕ → Edition
+editionAt a t = editionOf (getD t (a * recordSize) 0)
+
 -- the words of its filter
 abbrev pub filterWords : ℕ → List ℕ → List ℕ
 filterWords a t = drop headSize (part a t)
@@ -46,6 +52,7 @@ numbersTable = record {
   cleared = replicate tableSize 0;  -- C-2
   event = λ a e datagram t. putBack a t (onNumbers e datagram (part a t));
   filter = λ t a. octetsOf (filterWords a t);
+  edition = λ t a. editionAt a t;
 }
 
 abbrev pub atNumbers : ℕ → Event → List ℕ → List ℕ → Reply × List ℕ

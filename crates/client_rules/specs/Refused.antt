@@ -11,7 +11,7 @@ use Rattle.client_rules.specs.Claim.{Client}
 -- the output that a call is lent; a call without one writes none
 abbrev pub lent : Call → List ℕ
 lent clearTable = []
-lent (openOne a timescale c) = []
+lent (openOne a edition timescale c) = []
 lent (closeOne a) = []
 lent (poll a cookie exponent interleaved out) = out
 lent (sent a t1) = []
@@ -22,7 +22,7 @@ lent (publish selected id out) = out
 -- the refusals that concern a call by N-1 to N-24 and W205-4, in the order of N-26
 abbrev pub refusalsOf : Call → List ℕ
 refusalsOf clearTable = 6 ∷ []
-refusalsOf (openOne a timescale c) = 6 ∷ 7 ∷ []
+refusalsOf (openOne a edition timescale c) = 6 ∷ 7 ∷ []
 refusalsOf (closeOne a) = 6 ∷ 7 ∷ []
 refusalsOf (poll a cookie exponent interleaved out) = 6 ∷ 7 ∷ 8 ∷ 11 ∷ []
 refusalsOf (sent a t1) = 6 ∷ 7 ∷ []

@@ -4,6 +4,7 @@ use mathlib.Core.List.{List, []}
 use Prim.Native.Nat.{ℕ}
 use lib.Dec.{ltb}
 use lib.ListN.{length}
+use Rattle.header.specs.declared.edition.Edition.{Edition}
 use Rattle.exchange.specs.Response.{responseOf}
 use Rattle.state.specs.Rules.{plainReply}
 use Rattle.state.specs.declared.event.Event.{Event}
@@ -18,8 +19,9 @@ pub record Table (S : Type 0) : Type 0 where
   pub cleared : S
   -- an event on one of the sixteen, and the datagram that it came with
   pub event : ℕ → Event → List ℕ → S → Reply × S
-  -- the filter of one association
+  -- the filter of one association, and the edition in which its datagrams are read
   pub filter : S → ℕ → List ℕ
+  pub edition : S → ℕ → Edition
 
 -- an event on an association: 6 by N-9 and N-6
 unfoldable pub eventOn : {S : Type 0} → Table S → ℕ → Event → List ℕ → S → Reply × S
@@ -48,11 +50,11 @@ publishing T selected id out s = cond (T .rightSize s) (publishFor selected id o
 -- C-3, C-31
 abbrev pub step : {S : Type 0} → Table S → Call → S → Answer × S
 step T clearTable s = clearing T s
-step T (openOne a timescale c) s = answering refusalAnswer (eventOn T a (Open timescale c) [] s)
+step T (openOne a edition timescale c) s = answering refusalAnswer (eventOn T a (Open edition timescale c) [] s)
 step T (closeOne a) s = answering refusalAnswer (eventOn T a Close [] s)
 step T (poll a cookie exponent interleaved out) s =
     answering (pollAnswer cookie exponent interleaved out) (eventOn T a (Poll (record { 0 = cookie }) interleaved (length out)) [] s)
 step T (sent a t1) s = answering refusalAnswer (eventOn T a (Sent t1) [] s)
-step T (receive a datagram t4) s = answering receiveAnswer (eventOn T a (Receive (responseOf datagram t4)) datagram s)
+step T (receive a datagram t4) s = answering receiveAnswer (eventOn T a (Receive (responseOf (T .edition s a) datagram t4)) datagram s)
 step T (loopVerdict a id) s = (verdictFor id (seen T s a), s)
 step T (publish selected id out) s = (publishing T selected id out s, s)

@@ -1,27 +1,29 @@
 -- Opening, a report and a response on the place that numbers stand for, by tests of the numbers. Assumes nothing.
-use mathlib.Core.Path.{_≡_, refl, sym, ap}
+use mathlib.Core.Path.{_≡_, refl, sym, ap, _∙_}
 use mathlib.Core.Bool.{Bool, true, false, cond, not, _||_, _&&_}
 use mathlib.Core.List.{List}
 use Prim.Native.Nat.{ℕ}
 use lib.Dec.{eqb}
 use lib.ListN.{replicate}
 use borrow.Author.Tests.{ne-eqb, eq-eqb}
+use Rattle.header.specs.Edition.{isEdition, editionOf}
 use Rattle.state.specs.Rules.{plainReply}
 use Rattle.state.specs.Plain.{opened, newlyOpened, reported, refuseAt, placeDo, Outstanding, Place, received, replyOf}
-use Rattle.state.specs.Numbers.{noRequest, noneSaved, placeIn, requestIn, openedIn}
+use Rattle.state.specs.Numbers.{noRequest, noneSaved, countTaken, placeIn, requestIn, openedIn}
 use Rattle.state.specs.Change.{change, Leaves}
 use Rattle.state.specs.declared.event.Event.the-variants.{Sent, Receive}
 use Rattle.state.specs.declared.head.Head.{Head}
 use Rattle.state.specs.declared.head.Filling.the-variants.{Clear}
 use Rattle.state.proofs.Flags.{count-first}
+use Rattle.state.proofs.Ranges.{edition-back}
 use Rattle.exchange.specs.declared.response.Response.{Response}
 use Rattle.state.specs.declared.event.Reply.{Reply}
 use Rattle.state.proofs.Changes.{on-request}
 
 -- the numbers of an association where so many octets were taken, and all else is as after opening
-abbrev openedHead : (timescale c taken : ℕ) → Head
-openedHead timescale c taken = record {
-  state = 1;
+abbrev openedHead : (edition timescale c taken : ℕ) → Head
+openedHead edition timescale c taken = record {
+  state = edition;
   timescale = timescale;
   chunk = c;
   next = 0;
@@ -34,8 +36,12 @@ openedHead timescale c taken = record {
 }
 
 -- a fresh place has the numbers of one where no octet was taken
-pub opened-fresh : (h : Head) (timescale c : ℕ) → Leaves h (change (plainReply 0) (openedHead timescale c 0) Clear) (plainReply 0) (λ datagram f. opened (newlyOpened timescale c))
-opened-fresh h timescale c = record { leaves = λ datagram f. ap (λ (k : ℕ). (plainReply 0, (openedHead timescale c k, replicate 512 0))) (sym (count-first 0)) }
+pub opened-fresh : (h : Head) (edition timescale c : ℕ) → isEdition edition ≡ true
+    → Leaves h (change (plainReply 0) (openedHead edition timescale c 0) Clear) (plainReply 0) (λ datagram f. opened (newlyOpened (editionOf edition) timescale c))
+opened-fresh h edition timescale c e = record {
+  leaves = λ datagram f. ap (λ (k : ℕ). (plainReply 0, (openedHead edition timescale c k, replicate 512 0))) (sym (count-first 0))
+      ∙ ap (λ (n : ℕ). (plainReply 0, (openedHead n timescale c (countTaken (replicate 512 false)), replicate 512 0))) (sym (edition-back edition e));
+}
 
 module _ (h : Head) (t1 : ℕ) (timed : t1 ≡ 0 → ⊥) (datagram f : List ℕ) where
   abbrev ByTests : Type 0

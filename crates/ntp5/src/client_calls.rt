@@ -25,10 +25,16 @@ pub extern "C" fn ntp5_clear(table: &mut [u64]) -> u8
 }
 
 #[no_mangle]
-pub extern "C" fn ntp5_open(table: &mut [u64], association: u8, timescale: u8, chunk: u16) -> u8
-    ensures { λ r. ⌜ (plainAnswer r [], now (table .exit)) ≡ stepNumbers (openOne association timescale chunk) (now (table .entry)) ⌝ }
+pub extern "C" fn ntp5_open(
+    table: &mut [u64],
+    association: u8,
+    edition: u8,
+    timescale: u8,
+    chunk: u16,
+) -> u8
+    ensures { λ r. ⌜ (plainAnswer r [], now (table .exit)) ≡ stepNumbers (openOne association edition timescale chunk) (now (table .entry)) ⌝ }
 {
-    client::open(table, association, timescale, chunk)
+    client::open(table, association, edition, timescale, chunk)
 }
 
 #[no_mangle]

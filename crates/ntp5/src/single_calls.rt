@@ -6,7 +6,7 @@ use c_structs::headers;
 use c_structs::headers::Header;
 use c_structs::headers::Read;
 ghost use mathlib.Core.Path.{_≡_};
-ghost use Rattle.header.specs.Header.{refusal, reading, headerOf, written};
+ghost use Rattle.header.specs.Header.{readNamed, writtenNamed};
 ghost use Rattle.chain.specs.Chain.{soundRefusal};
 ghost use Rattle.filter_rules.specs.Calls.{addId, unite};
 ghost use Rattle.filter_weight.specs.Weighing.{weighing, numbers};
@@ -15,17 +15,17 @@ ghost use Rattle.c_structs.specs.Numbers.{weightNumbers, measurementNumbers};
 ghost use Rattle.c_structs.specs.Headers.{readOf, coreHeader};
 
 #[no_mangle]
-pub extern "C" fn ntp5_header_read(datagram: &[u8], wanted_mode: u8) -> Read
-    ensures { λ r. ⌜ r ≡ readOf (reading (refusal (now (datagram .entry)) «wanted_mode») (headerOf (now (datagram .entry)))) ⌝ }
+pub extern "C" fn ntp5_header_read(edition: u8, datagram: &[u8], wanted_mode: u8) -> Read
+    ensures { λ r. ⌜ r ≡ readOf (readNamed edition (now (datagram .entry)) «wanted_mode») ⌝ }
 {
-    headers::read_of(header::read(datagram, wanted_mode))
+    headers::read_of(header::named::read(edition, datagram, wanted_mode))
 }
 
 #[no_mangle]
-pub extern "C" fn ntp5_header_write(fields: Header, out: &mut [u8]) -> u8
-    ensures { λ r. ⌜ (r, now (out .exit)) ≡ written (coreHeader fields) (now (out .entry)) ⌝ }
+pub extern "C" fn ntp5_header_write(edition: u8, fields: Header, out: &mut [u8]) -> u8
+    ensures { λ r. ⌜ (r, now (out .exit)) ≡ writtenNamed edition (coreHeader edition fields) (now (out .entry)) ⌝ }
 {
-    header::write(headers::core_header(fields), out)
+    header::named::write(edition, headers::core_header(edition, fields), out)
 }
 
 #[no_mangle]

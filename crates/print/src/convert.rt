@@ -36,3 +36,9 @@ pub fn from_i8(x: i8) -> u64
 {
     from_i64(x as i64)
 }
+
+pub fn from_i16(x: i16) -> u64
+    ensures { λ r. ⌜ r ≡ ofZ w64 x ⌝ }
+{
+    from_i64(x as i64)
+}

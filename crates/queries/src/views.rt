@@ -1,5 +1,7 @@
 // The calls that have no output: header, sound, weight, measure and verdict.
+use header::edition::Edition;
 use print::convert::from_i8;
+use print::convert::from_i16;
 use print::convert::from_i64;
 use print::convert::from_u8;
 use print::convert::from_u16;
@@ -7,36 +9,38 @@ use print::convert::from_u32;
 use words::line::u8_at;
 use words::line::u64_at;
 
-// Every field of a header, after a 0.
+// Every field of a header, after a 0. Edition 1 has one more, the timescale offset, and it stands last.
 fn fields(row: &[u8], h: header::Header) {
     let server = h.server_cookie;
     let client = h.client_cookie;
-    print::line(
-        row,
-        &[
-            0,
-            from_u8(h.leap),
-            from_u8(h.mode),
-            from_u8(h.stratum),
-            from_i8(h.poll),
-            from_i8(h.precision),
-            from_u8(h.timescale),
-            from_u8(h.era),
-            from_u16(h.flags),
-            from_u32(h.root_delay),
-            from_u32(h.root_dispersion),
-            server.0,
-            client.0,
-            h.receive,
-            h.transmit,
-        ],
-        row,
-    );
+    let edition = h.edition;
+    let values = [
+        0,
+        from_u8(h.leap),
+        from_u8(h.mode),
+        from_u8(h.stratum),
+        from_i8(h.poll),
+        from_i8(h.precision),
+        from_u8(h.timescale),
+        from_u8(h.era),
+        from_u16(h.flags),
+        from_u32(h.root_delay),
+        from_u32(h.root_dispersion),
+        server.0,
+        client.0,
+        h.receive,
+        h.transmit,
+        from_i16(h.timescale_offset),
+    ];
+    match edition {
+        Edition::One => print::line(row, &values, row),
+        Edition::Seven => print::line(row, &values[0..15], row),
+    }
 }
 
-// header MODE OCTETS
+// header EDITION MODE OCTETS
 fn call_header(row: &[u8], line: &[u8], datagram: &[u8]) {
-    let reading = header::read(datagram, u8_at(line, 1));
+    let reading = header::named::read(u8_at(line, 1), datagram, u8_at(line, 2));
     match reading {
         header::Reading::Refused(number) => print::result(row, number, datagram),
         header::Reading::Fields(h) => fields(row, h),

@@ -4,19 +4,20 @@ use mathlib.Core.Bool.{Bool, true, false, cond, _&&_, or-false, and-eq-true-iff}
 use mathlib.Core.List.{List, []}
 use mathlib.Core.Logic.{⊎-elim}
 use mathlib.Core.Option.{Option, none, some}
-use Prim.Native.Nat.{ℕ, zero, suc, _+_, _<_, min}
+use Prim.Native.Nat.{ℕ, zero, suc, _+_, _≤_, _<_, min}
 use native.Mathlib.Omega.{arith}
-use borrow.Author.Tests.{eqb-true, eqb-false, ne-eqb, ltb-true}
+use borrow.Author.Tests.{eqb-true, eqb-false, ne-eqb, le-leb, leb-true}
 use lib.Dec.{eqb, ltb, lit<}
 use lib.ListN.{replicate}
-use Rattle.chain.specs.Field.{firstOf}
-use Rattle.chain.specs.Content.{chainOctets, placed}
+use Rattle.header.specs.Edition.{editionOf, mostTimescale}
+use Rattle.chain.specs.Content.{chainOctets}
+use Rattle.chain.specs.declared.find.Occurrence.the-variants.{Absent}
 use Rattle.state.specs.Range.{inRange}
 use Rattle.state.specs.Plain.{Outstanding, Opened, closed, opened, newlyOpened, isLast, countedBy, savedServer, exchanged, placeDo}
 use Rattle.state.specs.Numbers.{HeadFits, placeHead, cookieIn, savedIn, openedIn}
 use Rattle.state.specs.declared.head.Head.{Head}
 use Rattle.state.proofs.Chunks.{or-cases}
-use Rattle.state.proofs.Ranges.{OpenRanges, open-ranges, AskedRanges, asked-ranges, none-missed}
+use Rattle.state.proofs.Ranges.{which, OpenRanges, open-ranges, AskedRanges, asked-ranges, none-missed}
 use Rattle.state.proofs.Numbers.{head-back, heads-back, server-back}
 use Rattle.state.specs.declared.event.Event.the-variants.{Open}
 use Rattle.order.specs.Order.{after}
@@ -25,6 +26,7 @@ use Rattle.client_rules.specs.Plain.{closedTable}
 use Rattle.octets.proofs.Parts.{replicate-at}
 use Rattle.reach.specs.Reach.{EveryInRange}
 use Rattle.client_rules.proofs.Demand3.{head-reached}
+use Rattle.reach.proofs.Datagram.{none-found}
 use Rattle.reach.proofs.Calls.{From, call, Polls, ask, round}
 use Rattle.reach.proofs.Rounds.{choose, noneOutstanding, Leads, rounds}
 use Rattle.octets.proofs.Tests.{by-outcome, same-test}
@@ -69,7 +71,7 @@ module _ {a : ℕ} (inside : a < 16) (h : Head) (fits : HeadFits h) (r : OpenRan
         or-cases (eqb (h .request .server .0) 0) _
         (λ s. by false (sym (eqb-true _ _ s)))
         (λ s. let few = and-eq-true-iff (eqb (h .request .server .0) (h .saved .server .0)) (ltb (h .missed) 4) .0 s in
-        by true (rw (few .1) (server-back (h .saved) (r .saved) ∙ sym (eqb-true _ _ (few .0)))))
+        by true (rw (few .1) (server-back h (r .saved) ∙ sym (eqb-true _ _ (few .0)))))
         (asked .server)
 
     -- n polls were missed, and d more are with the one that is outstanding
@@ -91,21 +93,21 @@ module _ {a : ℕ} (inside : a < 16) (h : Head) (fits : HeadFits h) (r : OpenRan
             ask inside h _ (k .cookie) 0 false (k .polls) (lit< tt) (missing n 0 (omega arith) f (some (k .cookie)) _ (k .before))
 
   -- nothing was saved, so that nothing was taken
-  unsaved : eqb (h .saved .t4) 0 ≡ true → From a (opened (newlyOpened (h .timescale) (h .chunk))) h
+  unsaved : eqb (h .saved .t4) 0 ≡ true → From a (opened (newlyOpened (editionOf (h .state)) (h .timescale) (h .chunk))) h
   unsaved e =
       let taken = eqb-true (h .taken) 0 (rw (e, or-false) at (r .taken-saved)) in
       let next : h .next ≡ 0 = ⊎-elim (λ k. omega arith) (λ k. omega arith) (r .taken) in
-      let same : newlyOpened (h .timescale) (h .chunk) ≡ noneOutstanding h (h .next) (h .taken) (replicate 512 0) none (savedIn (h .saved)) = rw (next, taken, e) in
+      let same : newlyOpened (editionOf (h .state)) (h .timescale) (h .chunk) ≡ noneOutstanding h (h .next) (h .taken) (replicate 512 0) none (savedIn (h .saved)) = rw (next, taken, e) in
       subst⁻¹ (λ (o : Opened). From a (opened o) h) same
       (by-outcome (eqb (h .outstanding) 0) (λ t. none-left (replicate 512 0) none t (rw (last-test, t, e))) (λ t. asking t _ none refl))
 
   -- something was saved: rounds that each take a chunk, and one without, by the last cookie if no request is outstanding
-  saved : eqb (h .saved .t4) 0 ≡ false → From a (opened (newlyOpened (h .timescale) (h .chunk))) h
-  unfolding chainOctets firstOf placed
+  saved : eqb (h .saved .t4) 0 ≡ false → From a (opened (newlyOpened (editionOf (h .state)) (h .timescale) (h .chunk))) h
+  unfolding chainOctets
   saved e = rounds inside h fits r timescale nonzero ends (replicate 512 0) none none refl
     where
-      timescale : h .saved .timescale < 256
-      timescale = ltb-true _ _ (rw e at (r .saved))
+      timescale : h .saved .timescale ≤ mostTimescale (editionOf (h .state))
+      timescale = leb-true _ _ (rw e at (r .saved))
 
       nonzero : h .saved .t4 ≡ 0 → ⊥
       nonzero = eqb-false _ _ e
@@ -113,7 +115,7 @@ module _ {a : ℕ} (inside : a < 16) (h : Head) (fits : HeadFits h) (r : OpenRan
       ends : Leads a h (h .next) (h .taken)
       ends f last v n =
           let once : (k : ℕ) → Polls k last → Before f (some k) → From a (opened (noneOutstanding h (h .next) (h .taken) f last v)) h =
-          λ k p l. round inside h fits timescale nonzero (noneOutstanding h (h .next) (h .taken) f last v) k p [] tt tt tt (omega arith) (rw e at l) in
+          λ k p l. round inside h fits nonzero (noneOutstanding h (h .next) (h .taken) f last v) timescale k p [] tt tt tt (omega arith) Absent (none-found (editionOf (h .state))) (rw e at l) in
           by-outcome (eqb (h .outstanding) 0)
           (λ t. let z = last-polls (rw (t, e)) n in once (h .last .0) z (none-left f _ t (rw (ne-eqb (h .last .0) 0 (z .nonzero)))))
           (λ t. let k = choose (h .last .0) last in once (k .cookie) (k .polls) (asking t f _ (k .before)))
@@ -122,7 +124,9 @@ module _ {a : ℕ} (inside : a < 16) (h : Head) (fits : HeadFits h) (r : OpenRan
   unfolding placeDo
   open-from-closed =
       let high = r .chunk-high in
-      call inside (openOne a (h .timescale) (h .chunk)) (Open (h .timescale) (h .chunk)) [] (omega arith, r .timescale, omega arith) (λ ps. refl) (rw (r .chunk))
+      let edition : h .state < 256 = ⊎-elim (λ k. omega arith) (λ k. omega arith) (which (h .state) 1 7 (r .edition)) in
+      call inside (openOne a (h .state) (h .timescale) (h .chunk)) (Open (h .state) (h .timescale) (h .chunk)) [] (omega arith, edition, r .timescale-octet, omega arith) (λ ps at. refl)
+      (rw (r .edition, le-leb _ _ (r .timescale), r .chunk))
       (by-outcome (eqb (h .saved .t4) 0) unsaved saved)
 
 -- an open head or a closed one

@@ -9,7 +9,10 @@ use ghost.Atoms.{Atoms}
 use types.Kit.{Given}
 use denote.Laws.{Is}
 use denote.Struct.Laws as LL
+use Rattle.header.specs.declared.edition.Edition.{Edition}
 use Rattle.header.specs.declared.Reading.{Reading}
+use Rattle.header.proofs.edition.Edition as Ed
+use Rattle.header.proofs.edition.Edition.Laws as Ed′
 use Rattle.header.proofs.Reading as Rd
 use Rattle.header.proofs.Reading.Laws as Rd′
 use Rattle.responder_rules.specs.declared.Server.{Server}
@@ -24,6 +27,9 @@ use Rattle.answer_plan.proofs.AnswerStep as St
 use Rattle.answer_plan.proofs.AnswerStep.Laws as St′
 use Rattle.answer_plan.proofs.Plan as P
 use Rattle.answer_plan.proofs.Plan.Laws as P′
+
+abbrev pub IsEdition : Edition → Type 0
+IsEdition r = Is Ed.the-row r (Ed′.lowered r ∷ [])
 
 abbrev pub IsReading : Reading → Type 0
 IsReading r = Is Rd.the-row r (Rd′.lowered r ∷ [])
@@ -41,9 +47,6 @@ abbrev pub IsPlan : Plan → Type 0
 IsPlan r = Is P.the-row r (P′.lowered r ∷ [])
 
 -- their fields
-pub leap-fits : (s : Server) → IsServer s → s .leap < 2 ^ 8
-leap-fits s g = LL.owed Sv.the-type Sv′.the-laws s (Sv′.lowered s ∷ []) g .0 .1
-
 pub is-step : (p : Plan) → IsPlan p → IsAnswerStep (p .step)
 is-step p g = LL.owed P.the-type P′.the-laws p (P′.lowered p ∷ []) g .0
 

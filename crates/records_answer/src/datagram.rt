@@ -2,6 +2,7 @@
 use answer_plan::AnswerStep;
 use header::Reading;
 use header::ServerCookie;
+use header::edition::Edition;
 use responder_rules::Answered;
 use responder_rules::Server;
 ghost use mathlib.Core.Path.{_≡_};
@@ -13,27 +14,37 @@ ghost use Rattle.records_answer.specs.Sent.{Ready, answerSent};
 
 // The header of the request, or what it or the arguments are refused by: 6, then 1 to 5 and 13.
 pub(crate) fn checked(
+    edition: Edition,
+    server: Server,
     request: &[u8],
     filter: &[u8],
     information: &[u8],
-    leap: u8,
     receive: u64,
     estimate: u64,
 ) -> Reading
-    ensures { λ r. ⌜ r ≡ reading (argumentsRefusal (now (request .entry)) (now (filter .entry)) (now (information .entry)) leap receive estimate)
-        (headerOf (now (request .entry))) ⌝ }
+    ensures { λ r. ⌜ r ≡ reading (argumentsRefusal edition server (now (request .entry)) (now (filter .entry)) (now (information .entry)) receive estimate)
+        (headerOf edition (now (request .entry))) ⌝ }
 {
-    let number = responder::check(request, filter, information, leap, receive, estimate);
+    let number = responder::check(
+        edition,
+        server,
+        request,
+        filter,
+        information,
+        receive,
+        estimate,
+    );
     if number != 0 {
         return Reading::Refused(number);
     }
-    header::read(request, 3)
+    header::read(edition, request, 3)
 }
 
 // What the step returned is the refusal, or the answer is written to the start of `out`.
 pub(crate) fn sent(
     step: AnswerStep,
     checked: Reading,
+    edition: Edition,
     request: &[u8],
     receive: u64,
     estimate: u64,
@@ -44,9 +55,9 @@ pub(crate) fn sent(
     out: &mut [u8],
 ) -> Answered
     requires { ⌜ ((step .refusal ≡ 0)
-        → Ready checked (given (now request) receive estimate («fresh_cookie» .0) server (now filter) (now information)) (now out)) ⌝ }
+        → Ready checked (given (now request) receive estimate («fresh_cookie» .0) server (now filter) (now information) edition) (now out)) ⌝ }
     ensures { λ r. ⌜ outcome r (now (out .exit)) []
-        ≡ answerSent (given (now (request .entry)) receive estimate («fresh_cookie» .0) server (now (filter .entry)) (now (information .entry)))
+        ≡ answerSent (given (now (request .entry)) receive estimate («fresh_cookie» .0) server (now (filter .entry)) (now (information .entry)) edition)
         step (now (out .entry)) ⌝ }
 {
     let number = step.refusal;
@@ -67,6 +78,6 @@ pub(crate) fn sent(
     );
     let part = &mut out[0..n];
     header::write(header, part);
-    answer_fields::write(request, filter, information, part);
+    answer_fields::write(edition, request, filter, information, part);
     Answered::Written(n as u16)
 }

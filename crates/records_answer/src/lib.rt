@@ -1,9 +1,11 @@
-// The answer to a request, R-4 to R-20, with the saved timestamps of interleaved mode in a lent slice of records, G-9.
+// The answer to a request, R-4 to R-20, in either edition, W204-13, with the saved timestamps of interleaved mode in a lent slice of
+// records, G-9.
 mod datagram;
 
 use answer_plan::AnswerStep;
 use header::Reading;
 use header::ServerCookie;
+use header::edition::Edition;
 use records::Record;
 pub use responder_rules::Answered;
 pub use responder_rules::Server;
@@ -50,6 +52,7 @@ pub fn answer_step(
 // wants an interleaved answer (R-7, R-8).
 pub fn answer(
     records: &mut [Record],
+    edition: Edition,
     request: &[u8],
     receive: u64,
     estimate: u64,
@@ -60,15 +63,24 @@ pub fn answer(
     out: &mut [u8],
 ) -> Answered
     ensures { λ r. ⌜ outcome r (now (out .exit)) (recordsIn (now (records .exit)))
-        ≡ answerRecords (given (now (request .entry)) receive estimate («fresh_cookie» .0) server (now (filter .entry)) (now (information .entry)))
+        ≡ answerRecords (given (now (request .entry)) receive estimate («fresh_cookie» .0) server (now (filter .entry)) (now (information .entry)) edition)
         (recordsIn (now (records .entry))) (now (out .entry)) ⌝ }
 {
-    let checked = datagram::checked(request, filter, information, server.leap, receive, estimate);
+    let checked = datagram::checked(
+        edition,
+        server,
+        request,
+        filter,
+        information,
+        receive,
+        estimate,
+    );
     let short = out.len() < request.len();
     let step = answer_step(records, checked, short, fresh_cookie);
     datagram::sent(
         step,
         checked,
+        edition,
         request,
         receive,
         estimate,

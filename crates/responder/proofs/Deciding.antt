@@ -9,12 +9,15 @@ use borrow.Rule.Slice.PartMut.{putMid}
 use borrow.Author.Tests.{ne-eqb, lt-ltb, le-ltb}
 use lib.ListN.{length, take, drop}
 use lib.Seq.{length-take-le}
-use Rattle.header.specs.Header.{headerOctets}
+use Rattle.header.specs.Edition.{Within}
+use Rattle.header.specs.Header.{headerOf, headerOctets}
 use Rattle.header.specs.declared.Header.{Header}
 use Rattle.chain.specs.Content.{chainOctets}
 use Rattle.store_rules.specs.Row.{Record, storeOctets, sizeOf, rowOf, wrongStore}
-use Rattle.responder_rules.specs.Answer.{Given, asking, savedTime, answerHeader, sentHeader, sentFields, answerOctets, outputAfter, rowAfter, firstRefusal, wrongFresh, shortOutput, refusedAnswer, answerRefusal, outcome, answerOf}
+use Rattle.responder_rules.specs.Answer.{Given, asking, savedTime, answerHeader, sentHeader, answerFields, answerOctets, outputAfter, rowAfter, firstRefusal, wrongFresh, shortOutput, refusedAnswer, answerRefusal, outcome, answerOf}
 use Rattle.responder_rules.specs.declared.Answered.the-variants.{Written, Refused}
+use Rattle.responder_rules.specs.Claim.{Accepted}
+use Rattle.responder_rules.proofs.Answers.{sent-within}
 use Rattle.responder_rules.proofs.Accepting.{answer-written, answer-refused}
 
 module _ (g : Given) (store out : List ℕ) where
@@ -66,12 +69,18 @@ lent-size out n h = rw (sub-zero n) (length-take-le n out h)
 pub lent-back : (out l : List ℕ) (n : ℕ) → putMid 0 (n - 0) out l ≡ l ++ drop n out
 lent-back out l n = rw (sub-zero n)
 
+-- the edition holds the header that the code computed
+pub header-held : (g : Given) {asked h : Header} (time : ℕ) → Accepted g → asked ≡ asking g
+    → h ≡ answerHeader (g .server) asked (g .receive) (g .estimate) (g .freshCookie) time → Within (h .edition) (h .stratum) (h .timescale) (h .flags)
+unfolding headerOf
+header-held g time ok a e = rw (e, a) (sent-within (g .edition) time (ok .limits))
+
 -- an answer's octets, by the header and the time that the code computed
 module _ (g : Given) (row : List Record) {asked h : Header} {time : ℕ} (a : asked ≡ asking g) (t : time ≡ savedTime asked row)
     (e : h ≡ answerHeader (g .server) asked (g .receive) (g .estimate) (g .freshCookie) time) where
   pub header-sent : h ≡ sentHeader g row
   header-sent = e ∙ rw (t, a)
 
-  pub octets-sent : {l : List ℕ} → l ≡ headerOctets h ++ chainOctets (sentFields g) → l ≡ answerOctets g row
-  unfolding answerOctets
-  octets-sent q = q ∙ ap (λ (k : Header). headerOctets k ++ chainOctets (sentFields g)) header-sent
+  pub octets-sent : {l : List ℕ} → l ≡ headerOctets h ++ chainOctets (answerFields (h .edition) (g .request) (g .filter) (g .information)) → l ≡ answerOctets g row
+  unfolding answerOctets headerOf
+  octets-sent q = q ∙ ap (λ (k : Header). headerOctets k ++ chainOctets (answerFields (k .edition) (g .request) (g .filter) (g .information))) header-sent

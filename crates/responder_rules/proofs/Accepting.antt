@@ -10,6 +10,7 @@ use lib.ListN.{length, take}
 use lib.Seq.{take-at}
 use Rattle.store_rules.specs.Row.{Record, held, rowOf, storeOctets, sizeOf, wrongStore}
 use Rattle.octets.proofs.Tests.{or-none}
+use Rattle.header.proofs.Layouts.{within, not-over}
 use Rattle.responder_rules.specs.Answer.{Given, Outcome, asking, wantsInterleaved, rowAfter, wrongArguments, firstRefusal, wrongFresh, shortOutput, refusedAnswer, answerRefusal, answerOctets, outputAfter, answerOf}
 use Rattle.responder_rules.specs.Claim.{Accepted, InRange, AnswerClaim, Answerable}
 use Rattle.responder_rules.proofs.Answers.{answer-size, answer-claim}
@@ -51,20 +52,22 @@ pub record FirstPass (g : Given) : Type 0 where
 
 pub first-pass : (g : Given) → firstRefusal g ≡ 0 → FirstPass g
 first-pass g e =
-    let first = not-given (wrongArguments (g .filter) (g .information) (g .server .leap) (g .receive) (g .estimate)) 5 _ e in
-    let four = or-none _ (eqb (g .estimate) 0) (first .0) in
-    let three = or-none _ (eqb (g .receive) 0) (four .0) in
+    let first = not-given (wrongArguments (g .edition) (g .server) (g .filter) (g .information) (g .receive) (g .estimate)) 5 _ e in
+    let five = or-none _ (eqb (g .estimate) 0) (first .0) in
+    let four = or-none _ (eqb (g .receive) 0) (five .0) in
+    let three = or-none _ _ (four .0) in
     let two = or-none _ _ (three .0) in
     let one = or-none _ _ (two .0) in
     record {
       accepted = record {
         request = first .1;
-        filter = eqb-true _ _ (not-false _ (one .0));
-        information = eqb-true _ _ (not-false _ (one .1));
-        leap = ltb-false _ _ (two .1);
+        filter = eqb-true _ _ (not-false _ (one .1));
+        information = eqb-true _ _ (not-false _ (two .1));
+        leap = ltb-false _ _ (three .1);
+        limits = within (g .edition) (one .0);
       };
-      receive = eqb-false (g .receive) 0 (three .1);
-      estimate = eqb-false (g .estimate) 0 (four .1);
+      receive = eqb-false (g .receive) 0 (four .1);
+      estimate = eqb-false (g .estimate) 0 (five .1);
     }
 
 -- no refusal applies to an answer that is not refused
@@ -90,10 +93,11 @@ not-refused g store out a =
     let filter = eq-eqb (length (g .filter)) 512 (c .filter) in
     let information = eq-eqb (length (g .information)) 4 (c .information) in
     let leap = le-ltb 3 (g .server .leap) (c .leap) in
+    let limits = not-over (g .edition) (c .limits) in
     let receive = ne-eqb (g .receive) 0 (a .receive) in
     let estimate = ne-eqb (g .estimate) 0 (a .estimate) in
     let fresh = fresh-right (wantsInterleaved (asking g)) (g .freshCookie) (rowOf store) (a .fresh) in
-    rw (a .right, filter, information, leap, receive, estimate, c .request, fresh, le-ltb (length out) (length (g .request)) (a .room))
+    rw (a .right, filter, information, leap, receive, estimate, limits, c .request, fresh, le-ltb (length out) (length (g .request)) (a .room))
 
 pub answer-accepted : (g : Given) (store out : List ℕ) → answerRefusal g store out ≡ 0 → Accepted g
 answer-accepted g store out e = answerable g store out e .accepted

@@ -1,20 +1,25 @@
 -- An answer is as long as its request and sound, and reads as what went in. Assumes nothing.
-use mathlib.Core.Path.{_≡_, ap, _∙_, subst}
-use mathlib.Core.Bool.{Bool, true, false, cond}
+use mathlib.Core.Path.{_≡_, refl, ap, _∙_, subst}
 use mathlib.Core.List.{List, [], _++_, append-assoc}
-use Prim.Native.Nat.{ℕ, _+_, _-_, _*_, _/_, _%_, _<_, _^_}
+use Prim.Native.Nat.{ℕ, _+_, _-_, _<_, _≤_, _^_}
 use native.Mathlib.Omega.{arith}
 use lib.Dec.{eqb, lit<}
+use lib.IntN.{ℤ}
 use lib.ListN.{length, take, drop, length-append}
 use lib.Seq.{drop-at}
-use Rattle.octets.proofs.Tests.{by-test}
+use mir.Syntax.{w16}
+use mir.Val.{SFits}
+use Rattle.octets.proofs.Tests.{by-test, by-outcome}
+use Rattle.header.specs.Edition.{Within, mostFlags}
 use Rattle.header.specs.Header.{headerOf, headerOctets}
+use Rattle.header.specs.declared.edition.Edition.{Edition}
+use Rattle.header.specs.declared.edition.Edition.the-variants.{One, Seven}
 use Rattle.header.specs.declared.Header.{Header}
-use Rattle.header.specs.Claim.{Passes, InRange as HeaderRange}
+use Rattle.header.specs.Claim.{Passes, OffsetHeld, InRange as HeaderRange}
 use Rattle.header.proofs.Refusals.{passes, refusal-none}
 use Rattle.header.proofs.RoundTrip.{length-header, read-written, version-written, mode-written, read-in-range}
 use Rattle.chain.specs.Chain.{fieldsRefusal, soundRefusal}
-use Rattle.chain.specs.Field.{fieldsOf, firstOf}
+use Rattle.chain.specs.Field.{fieldsOf, fieldsIn, firstOf}
 use Rattle.chain.specs.Content.{Content, chainOctets, AllFit, placed, contentsOf}
 use Rattle.field_role.specs.Role.{roleOf, SizeAllowed}
 use Rattle.chain.specs.declared.cursor.Field.{Field}
@@ -24,14 +29,14 @@ use Rattle.chain.proofs.Datagrams.{header-passes, sound-datagram, fields-pass}
 use Rattle.field_role.proofs.Roles.{good-parts, size-allowed}
 use Rattle.chain.proofs.Contents.{NoneOf, none-placed, fit-append, chain-fours, length-chain-append, fields-written, contents-written}
 use Rattle.store_rules.specs.Row.{Record}
-use Rattle.responder_rules.specs.Answer.{Given, wantsInterleaved, savedTime, sentHeader, answersTo, paddingOf, answerFields, answerOctets, asking, sentFields}
+use Rattle.responder_rules.specs.Answer.{Given, wantsInterleaved, savedTime, sentFlags, sentOffset, sentHeader, answersTo, paddingOf, answerFields, answerOctets, asking, sentFields}
 use Rattle.responder_rules.specs.Claim.{Accepted, InRange, AnswerClaim}
 use Rattle.responder_rules.proofs.NoMac.{fields-no-mac}
-use Rattle.responder_rules.proofs.Room.{answers-fit, all-fit, padding-size, padding-fits, response-length}
+use Rattle.responder_rules.proofs.Room.{answers-in, all-fit, padding-size, padding-fits, response-length}
 
 module _ (g : Given) (a : Accepted g) where
   abbrev answers : List Content
-  answers = answersTo (g .request) (g .filter) (g .information) [] (fieldsOf (g .request))
+  answers = answersTo (g .request) (g .filter) (g .information) [] (fieldsIn (g .edition) (g .request))
 
   abbrev left : ℕ
   left = length (g .request) - (48 + length (chainOctets answers))
@@ -45,7 +50,7 @@ module _ (g : Given) (a : Accepted g) where
   unfolding answerFields
   fields-size =
       let p = passed in
-      let fit = answers-fit (g .request) (g .filter) (g .information) (a .filter) (a .information) (g .request) [] 48 (p .low) in
+      let fit = answers-in (g .request) (g .filter) (g .information) (a .filter) (a .information) (g .edition) (g .request) (p .low) in
       let fours = chain-fours answers in
       let padding = padding-size left (omega arith) in
       length-chain-append answers (paddingOf left) ∙ omega arith
@@ -55,11 +60,11 @@ module _ (g : Given) (a : Accepted g) where
   unfolding answerFields
   fields-fit =
       let p = passed in
-      fit-append answers (paddingOf left) (all-fit (g .request) (g .filter) (g .information) (a .filter) (a .information) [] (fieldsOf (g .request))) (padding-fits left (omega arith))
+      fit-append answers (paddingOf left) (all-fit (g .request) (g .filter) (g .information) (a .filter) (a .information) [] (fieldsIn (g .edition) (g .request))) (padding-fits left (omega arith))
 
   -- none of them is a MAC
   no-mac : NoneOf 0xF502 (sentFields g)
-  no-mac = fields-no-mac (g .request) (g .filter) (g .information)
+  no-mac = fields-no-mac (g .request) (g .filter) (g .information) (g .edition)
 
   -- an answer is as long as its request
   pub answer-size : (row : List Record) → length (answerOctets g row) ≡ length (g .request)
@@ -119,9 +124,20 @@ module _ (g : Given) (a : Accepted g) where
 
 -- the numbers of an answer's header are in range
 
-flags-range : (b : Bool) (flags : ℕ) → flags < 2 ^ 16 → flags - flags / 2 % 2 * 2 + cond b 0 2 < 2 ^ 16
-flags-range true flags h = omega arith
-flags-range false flags h = omega arith
+-- the flags that are sent fit where the server's do
+flags-range : (e : Edition) (flags saved : ℕ) → flags ≤ mostFlags e → sentFlags e flags saved ≤ mostFlags e
+flags-range One flags saved h = by-outcome (eqb saved 0) (λ q. rw q (omega arith)) (λ q. rw q (omega arith))
+flags-range Seven flags saved h = by-outcome (eqb saved 0) (λ q. rw q (omega arith)) (λ q. rw q (omega arith))
+
+-- so an edition that holds the server's values holds those that are sent
+pub sent-within : (e : Edition) {stratum timescale flags : ℕ} (saved : ℕ) → Within e stratum timescale flags → Within e stratum timescale (sentFlags e flags saved)
+sent-within e saved w =
+    record { stratum-held = w .stratum-held; timescale-held = w .timescale-held; flags-held = flags-range e _ saved (w .flags-held) }
+
+-- and the timescale offset that is sent
+offset-range : (e : Edition) (z : ℤ) → SFits w16 z → OffsetHeld e (sentOffset e z)
+offset-range One z s = s
+offset-range Seven z s = refl
 
 module _ (g : Given) (row : List Record) (a : Accepted g) (r : InRange g row) where
   saved-range : savedTime (asking g) row < 2 ^ 64
@@ -129,36 +145,36 @@ module _ (g : Given) (row : List Record) (a : Accepted g) (r : InRange g row) wh
 
   -- all of them
   header-range : HeaderRange (sentHeader g row)
+  unfolding headerOf
   header-range =
       let leap = a .leap in
       record {
         leap = omega arith;
         mode = lit< tt;
-        stratum = r .stratum;
+        within = sent-within (g .edition) (savedTime (asking g) row) (a .limits);
         poll = r .poll;
         precision = r .precision;
-        timescale = r .timescale;
         era = r .era;
-        flags = flags-range (eqb (savedTime (asking g) row) 0) (g .server .flags) (r .flags);
+        offset = offset-range (g .edition) (g .server .«timescale_offset») (r .offset);
         delay = r .delay;
         dispersion = r .dispersion;
         server = by-test (λ (n : ℕ). n < 2 ^ 64) (wantsInterleaved (asking g)) (λ e. r .freshCookie) (λ e. lit< tt);
-        client = read-in-range (g .request) (r .request) .client;
+        client = read-in-range (g .edition) (g .request) (r .request) .client;
         receive = r .receive;
         transmit = by-test (λ (n : ℕ). n < 2 ^ 64) (eqb (savedTime (asking g) row) 0) (λ e. r .estimate) (λ e. saved-range);
       }
 
   -- an answer's header reads as the values that went in
-  pub answer-header : headerOf (answerOctets g row) ≡ sentHeader g row
-  unfolding answerOctets
+  pub answer-header : headerOf (g .edition) (answerOctets g row) ≡ sentHeader g row
+  unfolding answerOctets headerOf
   answer-header = read-written (sentHeader g row) (chainOctets (sentFields g)) header-range
 
   -- also where other octets stand after the answer
-  pub answer-header-more : (t : List ℕ) → headerOf (answerOctets g row ++ t) ≡ sentHeader g row
-  unfolding answerOctets
+  pub answer-header-more : (t : List ℕ) → headerOf (g .edition) (answerOctets g row ++ t) ≡ sentHeader g row
+  unfolding answerOctets headerOf
   answer-header-more t =
       let h = sentHeader g row in
-      ap headerOf (append-assoc (headerOctets h) (chainOctets (sentFields g)) t) ∙ read-written h (chainOctets (sentFields g) ++ t) header-range
+      ap (headerOf (g .edition)) (append-assoc (headerOctets h) (chainOctets (sentFields g)) t) ∙ read-written h (chainOctets (sentFields g) ++ t) header-range
 
   pub answer-claim : AnswerClaim g row (answerOctets g row)
   answer-claim = record {

@@ -11,6 +11,7 @@ use Rattle.octets.specs.Number.{Octets, num, octets}
 use Rattle.octets.specs.Piece.{spelled}
 use Rattle.octets.proofs.Written.{small-octets, zeros-octets}
 use Rattle.header.specs.Header.{headerOf, headerOctets, refusal}
+use Rattle.header.specs.declared.edition.Edition.the-variants.{Seven}
 use Rattle.chain.specs.Chain.{allZero, stepAt, walkFor, walk, chainRefusal, soundRefusal}
 use Rattle.chain.specs.Content.{chainOctets}
 use Rattle.store_rules.specs.Row.{Record, held, timeOf, withTime, without, rowOctets, storeOctets, sizeOf, rowOf, recordsFrom, allUnused, usedOf, soundRecords, wrongStore, cleared, reporting}
@@ -39,6 +40,7 @@ server = record {
   precision = pos 0;
   timescale = 0;
   era = 0;
+  «timescale_offset» = pos 0;
   flags = 0;
   «root_delay» = 0;
   «root_dispersion» = 0;
@@ -46,6 +48,7 @@ server = record {
 
 abbrev given : (cookie freshCookie : ℕ) → Given
 given cookie freshCookie = record {
+  edition = Seven;
   request = request cookie;
   receive = 3;
   estimate = 4;
@@ -74,6 +77,7 @@ given-typed cookie freshCookie o h = record {
   precision = record { sfits = omega arith };
   timescale = lit< tt;
   era = lit< tt;
+  offset = record { sfits = omega arith };
   flags = lit< tt;
   delay = lit< tt;
   dispersion = lit< tt;
@@ -86,7 +90,13 @@ first : Answerable (given 0 1) zeros room
 unfolding wrongStore soundRecords allUnused usedOf recordsFrom num held headerOf refusal soundRefusal chainRefusal walk walkFor stepAt
 first = record {
   right = refl;
-  accepted = record { request = refl; filter = refl; information = refl; leap = omega arith };
+  accepted = record {
+    request = refl;
+    filter = refl;
+    information = refl;
+    leap = omega arith;
+    limits = record { stratum-held = omega arith; timescale-held = omega arith; flags-held = omega arith };
+  };
   receive = λ z. omega arith;
   estimate = λ z. omega arith;
   fresh = λ e. (λ z. omega arith, refl);

@@ -36,6 +36,7 @@ range-row g row sound r = record {
   precision = r .precision;
   timescale = r .timescale;
   era = r .era;
+  offset = r .offset;
   flags = r .flags;
   delay = r .delay;
   dispersion = r .dispersion;

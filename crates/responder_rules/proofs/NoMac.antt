@@ -5,7 +5,8 @@ use Prim.Native.Nat.{ℕ, _+_, _-_}
 use lib.Dec.{eqb}
 use lib.ListN.{length}
 use Rattle.octets.proofs.Tests.{by-test}
-use Rattle.chain.specs.Field.{fieldsOf}
+use Rattle.header.specs.declared.edition.Edition.{Edition}
+use Rattle.chain.specs.Field.{fieldsIn}
 use Rattle.chain.specs.Content.{chainOctets}
 use Rattle.chain.specs.declared.cursor.Field.{Field}
 use Rattle.chain.proofs.Contents.{NoneOf, none-append}
@@ -32,9 +33,9 @@ module _ (request filter information : List ℕ) where
       none-append 0xF502 (answerTo filter information f r) (answersTo request filter information (before ++ (f ∷ [])) fs)
       (role-no-mac f r) (answers-no-mac (before ++ (f ∷ [])) fs)
 
-  pub fields-no-mac : NoneOf 0xF502 (answerFields request filter information)
+  pub fields-no-mac : (e : Edition) → NoneOf 0xF502 (answerFields e request filter information)
   unfolding answerFields
-  fields-no-mac =
-      let answers = answersTo request filter information [] (fieldsOf request) in
+  fields-no-mac e =
+      let answers = answersTo request filter information [] (fieldsIn e request) in
       let left = length request - (48 + length (chainOctets answers)) in
-      none-append 0xF502 answers (paddingOf left) (answers-no-mac [] (fieldsOf request)) (padding-no-mac left)
+      none-append 0xF502 answers (paddingOf left) (answers-no-mac [] (fieldsIn e request)) (padding-no-mac left)

@@ -29,7 +29,7 @@ unfolding answerRefusal
 answer-one g store out =
     let ms = refusalsOf (answer g out) in
     let sound = sound-number (OneOf ms) (none ms) (λ z. refl) (λ z. refl) (λ z. refl) (λ z. refl) (λ z. refl) (λ z. refl) (g .request) 3 in
-    let first : OneOf ms (firstRefusal g) = by-test (OneOf ms) (wrongArguments (g .filter) (g .information) (g .server .leap) (g .receive) (g .estimate)) (λ e z. refl) (λ e. sound) in
+    let first : OneOf ms (firstRefusal g) = by-test (OneOf ms) (wrongArguments (g .edition) (g .server) (g .filter) (g .information) (g .receive) (g .estimate)) (λ e z. refl) (λ e. sound) in
     by-test (OneOf ms) (wrongStore store) (λ e z. refl) (λ e.
     by-test (OneOf ms) (not (eqb (firstRefusal g) 0)) (λ e. first) (λ e.
     by-test (OneOf ms) (wrongFresh (asking g) (g .freshCookie) (rowOf store)) (λ e z. refl) (λ e.

@@ -8,7 +8,9 @@ use borrow.Author.Tests.{eqb-true, eqb-false}
 use lib.Dec.{eqb, lit<}
 use lib.ListN.{length, take, drop, replicate, length-take, length-drop, length-replicate}
 use Rattle.chain.specs.Chain.{padded, stepAt, Walk, onStep, walkFor, walk}
-use Rattle.chain.specs.Field.{fieldsFrom}
+use Rattle.header.specs.declared.edition.Edition.{Edition}
+use Rattle.header.specs.declared.edition.Edition.the-variants.{One, Seven}
+use Rattle.chain.specs.Field.{fieldsFrom, fieldsIn}
 use Rattle.chain.specs.Content.{content, chainOctets, AllFit, draftName}
 use Rattle.field_role.specs.Role.{roleOf, SizeAllowed}
 use Rattle.chain.specs.declared.cursor.Field.{Field}
@@ -83,6 +85,11 @@ module _ (request filter information : List ℕ) (octets : length filter ≡ 512
       → length (chainOctets (answersTo request filter information before (fieldsFrom s at))) + at ≤ length s
   unfolding walk
   answers-fit s before at h = in-turns (length s) s before at h
+
+  -- those to the fields that an edition looks at
+  pub answers-in : (e : Edition) (s : List ℕ) → 48 ≤ length s → length (chainOctets (answersTo request filter information [] (fieldsIn e s))) + 48 ≤ length s
+  answers-in One s h = none [] 48 _ h
+  answers-in Seven s h = answers-fit s [] 48 h
 
   fit-role : (f : Field) (r : Role) → SizeAllowed f r → AllFit (answerTo filter information f r)
   fit-role f (FilterRequest offset) h =

@@ -1,13 +1,17 @@
--- The answer to a request, R-4 to R-20: its octets, and what it leaves in the store.
+-- The answer to a request, R-4 to R-20, in either edition, W204-13 to W204-15: its octets, and what it leaves in the store.
 use mathlib.Core.Bool.{Bool, cond, not, _&&_, _||_}
 use mathlib.Core.List.{List, [], _∷_, _++_}
 use Prim.Native.Nat.{ℕ, _+_, _-_, _*_, _/_, _%_}
 use lib.Dec.{eqb, ltb}
 use lib.ListN.{length, take, drop, replicate}
-use Rattle.header.specs.Header.{headerOf, headerOctets, interleavedFlag}
+use lib.IntN.{ℤ, pos}
+use Rattle.header.specs.Edition.{isEdition, editionOf, overLimits, interleavedBit, interleavedFlag}
+use Rattle.header.specs.Header.{headerOf, headerOctets}
+use Rattle.header.specs.declared.edition.Edition.{Edition}
+use Rattle.header.specs.declared.edition.Edition.the-variants.{One, Seven}
 use Rattle.header.specs.declared.Header.{Header}
 use Rattle.chain.specs.Chain.{soundRefusal}
-use Rattle.chain.specs.Field.{fieldsOf}
+use Rattle.chain.specs.Field.{fieldsIn}
 use Rattle.chain.specs.Content.{Content, content, chainOctets, draftName}
 use Rattle.field_role.specs.Role.{roleOf}
 use Rattle.chain.specs.declared.cursor.Field.{Field}
@@ -18,8 +22,9 @@ use Rattle.responder_rules.specs.declared.Server.{Server}
 use Rattle.responder_rules.specs.declared.Answered.{Answered}
 use Rattle.responder_rules.specs.declared.Answered.the-variants.{Written, Refused}
 
--- R-4: what an answer takes beside the store and the output
+-- R-4, W204-13: what an answer takes beside the store and the output
 pub record Given : Type 0 where
+  pub edition : Edition
   pub request : List ℕ
   pub receive : ℕ
   pub estimate : ℕ
@@ -28,8 +33,9 @@ pub record Given : Type 0 where
   pub filter : List ℕ
   pub information : List ℕ
 
-abbrev pub given : (request : List ℕ) (receive estimate freshCookie : ℕ) → Server → (filter information : List ℕ) → Given
-given request receive estimate freshCookie server filter information = record {
+abbrev pub given : (request : List ℕ) (receive estimate freshCookie : ℕ) → Server → (filter information : List ℕ) → Edition → Given
+given request receive estimate freshCookie server filter information e = record {
+  edition = e;
   request = request;
   receive = receive;
   estimate = estimate;
@@ -39,21 +45,31 @@ given request receive estimate freshCookie server filter information = record {
   information = information;
 }
 
--- the header of the request
+-- the header of the request, read in the answer's edition
 abbrev pub asking : Given → Header
-asking g = headerOf (g .request)
+asking g = headerOf (g .edition) (g .request)
 
--- H-8: the request's flag 0x2
+-- H-8, W204-4: the request's interleaved flag
 abbrev pub wantsInterleaved : Header → Bool
-wantsInterleaved asked = interleavedFlag (asked .flags)
+wantsInterleaved asked = interleavedFlag (asked .edition) (asked .flags)
 
 -- R-9: the time saved for the request's server cookie; 0 where the answer is basic, R-7 or R-11
 abbrev pub savedTime : Header → List Record → ℕ
 savedTime asked row = cond (wantsInterleaved asked) (timeOf (asked .«server_cookie» .0) row) 0
 
+-- R-6, R-9, H-9: the server's flags without the interleaved one, which is set where a saved time is sent. W204-4 has its bit
+abbrev pub sentFlags : Edition → (flags saved : ℕ) → ℕ
+sentFlags e flags saved = flags - flags / interleavedBit e % 2 * interleavedBit e + cond (eqb saved 0) 0 (interleavedBit e)
+
+-- W204-13
+abbrev pub sentOffset : Edition → ℤ → ℤ
+sentOffset One z = z
+sentOffset Seven z = pos 0
+
 -- R-5; the answer is basic where `saved` is 0
 abbrev pub answerHeader : Server → (asked : Header) (receive estimate freshCookie saved : ℕ) → Header
 answerHeader server asked receive estimate freshCookie saved = record {
+  edition = asked .edition;
   leap = server .leap;
   mode = 4;  -- H-6
   stratum = server .stratum;
@@ -61,7 +77,8 @@ answerHeader server asked receive estimate freshCookie saved = record {
   precision = server .precision;
   timescale = server .timescale;
   era = server .era;
-  flags = server .flags - server .flags / 2 % 2 * 2 + cond (eqb saved 0) 0 2;  -- R-6, R-9, H-9
+  «timescale_offset» = sentOffset (asked .edition) (server .«timescale_offset»);
+  flags = sentFlags (asked .edition) (server .flags) saved;
   «root_delay» = server .«root_delay»;
   «root_dispersion» = server .«root_dispersion»;
   «server_cookie» = record { 0 = cond (wantsInterleaved asked) freshCookie 0 };  -- R-7, R-12
@@ -87,9 +104,10 @@ answersTo request filter information before (f ∷ fs) =
 abbrev pub paddingOf : ℕ → List Content
 paddingOf n = cond (eqb n 0) [] (content 0xF501 (replicate (n - 4) 0) ∷ [])
 
-unfoldable pub answerFields : (request filter information : List ℕ) → List Content
-answerFields request filter information =
-    let answers = answersTo request filter information [] (fieldsOf request) in
+-- W204-14: in edition 1 no field is answered
+unfoldable pub answerFields : Edition → (request filter information : List ℕ) → List Content
+answerFields e request filter information =
+    let answers = answersTo request filter information [] (fieldsIn e request) in
     answers ++ paddingOf (length request - (48 + length (chainOctets answers)))
 
 -- the header and the fields of an answer
@@ -97,7 +115,7 @@ abbrev pub sentHeader : Given → List Record → Header
 sentHeader g row = answerHeader (g .server) (asking g) (g .receive) (g .estimate) (g .freshCookie) (savedTime (asking g) row)
 
 abbrev pub sentFields : Given → List Content
-sentFields g = answerFields (g .request) (g .filter) (g .information)
+sentFields g = answerFields (g .edition) (g .request) (g .filter) (g .information)
 
 unfoldable pub answerOctets : Given → List Record → List ℕ
 answerOctets g row = headerOctets (sentHeader g row) ++ chainOctets (sentFields g)
@@ -106,28 +124,29 @@ answerOctets g row = headerOctets (sentHeader g row) ++ chainOctets (sentFields 
 abbrev pub outputAfter : Given → List Record → (out : List ℕ) → List ℕ
 outputAfter g row out = answerOctets g row ++ drop (length (g .request)) out
 
--- the row after an answer: R-10, then R-12 to R-14; R-7 where flag 0x2 is clear
+-- the row after an answer: R-10, then R-12 to R-14; R-7 where the interleaved flag is clear
 abbrev pub rowAfter : (asked : Header) (freshCookie n : ℕ) → List Record → List Record
 rowAfter asked freshCookie n row =
     cond (wantsInterleaved asked)
     (joined n freshCookie (cond (eqb (savedTime asked row) 0) row (without (asked .«server_cookie» .0) row)))
     row
 
--- 6 by N-11, N-12, N-7 and N-16
-abbrev pub wrongArguments : (filter information : List ℕ) (leap receive estimate : ℕ) → Bool
-wrongArguments filter information leap receive estimate =
-    not (eqb (length filter) 512) || not (eqb (length information) 4) || ltb 3 leap || eqb receive 0 || eqb estimate 0
+-- 6 by W204-15, N-11, N-12, N-7 and N-16
+abbrev pub wrongArguments : Edition → Server → (filter information : List ℕ) (receive estimate : ℕ) → Bool
+wrongArguments e server filter information receive estimate =
+    overLimits e (server .stratum) (server .timescale) (server .flags)
+    || not (eqb (length filter) 512) || not (eqb (length information) 4) || ltb 3 (server .leap) || eqb receive 0 || eqb estimate 0
 
 -- what the arguments and the request are refused by: 6, then 1 to 5 and 13, so that 13 comes before 8 (W205-6)
-abbrev pub argumentsRefusal : (request filter information : List ℕ) (leap receive estimate : ℕ) → ℕ
-argumentsRefusal request filter information leap receive estimate =
-    cond (wrongArguments filter information leap receive estimate) 6 (soundRefusal request 3)
+abbrev pub argumentsRefusal : Edition → Server → (request filter information : List ℕ) (receive estimate : ℕ) → ℕ
+argumentsRefusal e server request filter information receive estimate =
+    cond (wrongArguments e server filter information receive estimate) 6 (soundRefusal request 3)
 
 -- the same of what an answer is given
 abbrev pub firstRefusal : Given → ℕ
-firstRefusal g = argumentsRefusal (g .request) (g .filter) (g .information) (g .server .leap) (g .receive) (g .estimate)
+firstRefusal g = argumentsRefusal (g .edition) (g .server) (g .request) (g .filter) (g .information) (g .receive) (g .estimate)
 
--- N-20 by R-8; by R-7 not where flag 0x2 is clear
+-- N-20 by R-8; by R-7 not where the interleaved flag is clear
 abbrev pub wrongFresh : (asked : Header) (freshCookie : ℕ) → List Record → Bool
 wrongFresh asked freshCookie row = wantsInterleaved asked && (eqb freshCookie 0 || held freshCookie row)
 
@@ -174,3 +193,8 @@ answerOf g store out =
       store = storeOctets (sizeOf store) (rowAfter (asking g) (g .freshCookie) (sizeOf store) (rowOf store));
     })
     (record { refusal = answerRefusal g store out; size = 0; out = out; store = store })
+
+-- W204-1: where the edition is named by a number, and 6 for one that names none
+unfoldable pub answerNamed : (edition : ℕ) → (Edition → Given) → (store out : List ℕ) → Outcome
+answerNamed n g store out =
+    cond (isEdition n) (answerOf (g (editionOf n)) store out) (outcome (Refused 6) out store)

@@ -5,9 +5,10 @@ use mathlib.Core.Bool.{true, false}
 use mathlib.Core.List.{List, []}
 use Prim.Native.Nat.{ℕ, _<_, _≤_, _^_}
 use lib.ListN.{length, take, drop}
-use mir.Syntax.{w8}
+use mir.Syntax.{w8, w16}
 use mir.Val.{SFits}
 use Rattle.octets.specs.Number.{Octets}
+use Rattle.header.specs.Edition.{Within}
 use Rattle.header.specs.Header.{headerOf}
 use Rattle.chain.specs.Chain.{soundRefusal}
 use Rattle.chain.specs.Field.{fieldsOf, firstOf}
@@ -22,12 +23,14 @@ use Rattle.responder_rules.specs.Call.{Call, clear, report, answer, Resp
 
 -- ---- the arguments
 
--- the request is sound (F-8, W205-3), and the filter, the server information and the leap are not refused by N-11, N-12 and N-7
+-- the request is sound (F-8, W205-3), and the filter, the server information and the server's values are not refused by N-11, N-12, N-7
+-- and W204-15
 pub record Accepted (g : Given) : Type 0 where
   pub request : soundRefusal (g .request) 3 ≡ 0
   pub filter : length (g .filter) ≡ 512
   pub information : length (g .information) ≡ 4
   pub leap : g .server .leap ≤ 3
+  pub limits : Within (g .edition) (g .server .stratum) (g .server .timescale) (g .server .flags)
 
 -- each number is one that its type in the call holds, and the row's times are of 64 bits
 pub record InRange (g : Given) (row : List Record) : Type 0 where
@@ -40,6 +43,7 @@ pub record InRange (g : Given) (row : List Record) : Type 0 where
   pub precision : SFits w8 (g .server .precision)
   pub timescale : g .server .timescale < 2 ^ 8
   pub era : g .server .era < 2 ^ 8
+  pub offset : SFits w16 (g .server .«timescale_offset»)
   pub flags : g .server .flags < 2 ^ 16
   pub delay : g .server .«root_delay» < 2 ^ 32
   pub dispersion : g .server .«root_dispersion» < 2 ^ 32
@@ -59,8 +63,8 @@ pub record AnswerClaim (g : Given) (row : List Record) (sent : List ℕ) : Type 
   pub long : length sent ≡ length (g .request)
   -- it is sound where a response is wanted
   pub sound : soundRefusal sent 4 ≡ 0
-  -- R-5 to R-12: its header reads as the values that went in
-  pub header : headerOf sent ≡ sentHeader g row
+  -- R-5 to R-12, W204-13: its header reads, in the answer's edition, as the values that went in
+  pub header : headerOf (g .edition) sent ≡ sentHeader g row
   -- its fields are those of R-16 to R-20, each right after the one before it, and no others
   pub fields : fieldsOf sent ≡ placed 48 (sentFields g)
   -- their types and data are those of R-16 to R-20
@@ -75,7 +79,7 @@ pub record AnswerClaim (g : Given) (row : List Record) (sent : List ℕ) : Type 
 pub record Answerable (g : Given) (store out : List ℕ) : Type 0 where
   -- N-10, N-14
   pub right : wrongStore store ≡ false
-  -- N-1 to N-5, N-7, N-11, N-12, W205-4
+  -- N-1 to N-5, N-7, N-11, N-12, W205-4, W204-15
   pub accepted : Accepted g
   -- N-16
   pub receive : g .receive ≡ 0 → ⊥

@@ -46,7 +46,7 @@ answersFromOne clear s = stepStore clear s
 answersFromOne (report c t) s = stepStore (report c t) s
 answersFromOne (answer g out) s =
     let w = answerOf g s out in
-    record { refusal = w .refusal; size = w .size; out = w .out; store = cond (interleaved (w .refusal) (w .out)) s (w .store) }
+    record { refusal = w .refusal; size = w .size; out = w .out; store = cond (interleaved (g .edition) (w .refusal) (w .out)) s (w .store) }
 
 -- of the once-only claim what the observer sees, alone
 abbrev pub SentOnceFor : Responder → Type 0

@@ -5,7 +5,9 @@ use mathlib.Core.List.{List, [], _∷_}
 use Prim.Native.Nat.{ℕ, _≤_}
 use lib.Dec.{eqb}
 use lib.ListN.{length}
-use Rattle.header.specs.Header.{headerOf, interleavedFlag}
+use Rattle.header.specs.Edition.{interleavedFlag}
+use Rattle.header.specs.Header.{headerOf}
+use Rattle.header.specs.declared.edition.Edition.{Edition}
 use Rattle.store_rules.specs.Row.{Record, held, timeOf, without, sizeOf, rowOf, wrongSize, wrongStore}
 use Rattle.responder_rules.specs.Answer.{Given, asking}
 use Rattle.responder_rules.specs.Call.{Call, clear, report, answer, Responder, stepStore}
@@ -32,9 +34,10 @@ clearedBy step s = step clear s .store
 abbrev pub askedCookie : Given → ℕ
 askedCookie g = asking g .«server_cookie» .0
 
--- an interleaved answer: it is not refused, and flag 0x2 is set in the header that stands in the output
-abbrev pub interleaved : (refusal : ℕ) (out : List ℕ) → Bool
-interleaved refusal out = eqb refusal 0 && interleavedFlag (headerOf out .flags)
+-- an interleaved answer: it is not refused, and the flag is set in the header that stands in the output, read in the edition that the call
+-- names (W204-4)
+abbrev pub interleaved : Edition → (refusal : ℕ) (out : List ℕ) → Bool
+interleaved e refusal out = eqb refusal 0 && interleavedFlag e (headerOf e out .flags)
 
 pub data Observed : Type 0 where
   -- a clear
@@ -50,7 +53,7 @@ pub data Observed : Type 0 where
 abbrev pub observedOf : Call → (refusal : ℕ) (out : List ℕ) → Observed
 observedOf clear refusal out = cond (eqb refusal 0) clears other
 observedOf (report c t) refusal out = cond (eqb refusal 0) (reports c t) other
-observedOf (answer g lent) refusal out = cond (interleaved refusal out) (sends (askedCookie g) (headerOf out .transmit)) other
+observedOf (answer g lent) refusal out = cond (interleaved (g .edition) refusal out) (sends (askedCookie g) (headerOf (g .edition) out .transmit)) other
 
 unfoldable pub observations : Responder → List Call → List ℕ → List Observed
 observations step [] s = []
@@ -82,7 +85,7 @@ pub record OnceClaim (step : Responder) (s : List ℕ) (cs : List Call) : Type 0
   pub store-right : Right (sizeOf s) (storeAfterCalls step cs (clearedBy step s))
   -- R-10: after an interleaved answer the cookie of its request is not in the store
   pub record-left : (g : Given) (out : List ℕ) → InRange g [] → let w = step (answer g out) (storeAfterCalls step cs (clearedBy step s)) in
-      interleaved (w .refusal) (w .out) ≡ true → held (askedCookie g) (rowOf (w .store)) ≡ false
+      interleaved (g .edition) (w .refusal) (w .out) ≡ true → held (askedCookie g) (rowOf (w .store)) ≡ false
 
 -- for any octets of the right size and every list of calls
 abbrev pub OnceFor : Responder → Type 0

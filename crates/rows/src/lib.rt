@@ -2,6 +2,7 @@
 // line (crate print). A signature has a letter for each word after the name:
 //   b, h, w, q   a number of 8, 16, 32, 64 bits
 //   s            a signed number of 8 bits
+//   t            a signed number of 16 bits
 //   m            the word basic or interleaved
 //   -            no word: the signature of a call that has none
 //   I            octets that the call reads

@@ -5,7 +5,9 @@ use mathlib.Core.List.{List}
 use Prim.Native.Nat.{ℕ}
 use lib.Dec.{eqb, ltb}
 use lib.ListN.{length}
-use Rattle.header.specs.Header.{headerOf, refusal, reading, written}
+use Rattle.header.specs.Edition.{isEdition, editionOf, overLimits}
+use Rattle.header.specs.Header.{headerOf, refusal, reading, written, readNamed, writtenNamed}
+use Rattle.header.specs.declared.Reading.{Reading}
 use Rattle.octets.specs.Among.{among}
 use Rattle.header.proofs.Refusals.{header-number}
 use Rattle.chain.proofs.Refusals.{sound-number}
@@ -31,15 +33,19 @@ refused : (c : Call) (n : ℕ) → among n (refusalsOf c) ≡ true → IfRefused
 refused c n e f = record { unchanged = refl; number = e }
 
 pub refusals : Refusals
-unfolding written
-refusals (headerRead s wanted) =
-    let c = headerRead s wanted in
-    header-number (λ n. IfRefused c (readAnswer (reading n (headerOf s)))) (accepted c _ refl) (refused c 1 refl) (refused c 2 refl) (refused c 3 refl) s wanted
-refusals (headerWrite h out) =
-    let c = headerWrite h out in
+unfolding written readNamed writtenNamed
+refusals (headerRead n s wanted) =
+    let c = headerRead n s wanted in
+    either (λ (r : Reading). IfRefused c (readAnswer r)) (isEdition n)
+    (header-number (λ k. IfRefused c (readAnswer (reading k (headerOf (editionOf n) s)))) (accepted c _ refl) (refused c 1 refl) (refused c 2 refl) (refused c 3 refl) s wanted)
+    (refused c 6 refl)
+refusals (headerWrite n h out) =
+    let c = headerWrite n h out in
     let P : ℕ × List ℕ → Type 0 = λ w. IfRefused c (outputAnswer w) in
-    either P (ltb 3 (h .leap) || not (eqb (h .mode) 3 || eqb (h .mode) 4)) (refused c 6 refl)
-    (either P (ltb (length out) 48) (refused c 11 refl) (accepted c _ refl))
+    either P (isEdition n)
+    (either P (ltb 3 (h .leap) || not (eqb (h .mode) 3 || eqb (h .mode) 4) || overLimits (h .edition) (h .stratum) (h .timescale) (h .flags)) (refused c 6 refl)
+    (either P (ltb (length out) 48) (refused c 11 refl) (accepted c _ refl)))
+    (refused c 6 refl)
 refusals (sound s wanted) =
     let c = sound s wanted in
     let P : ℕ → Type 0 = λ n. IfRefused c (plainAnswer n (lent c)) in

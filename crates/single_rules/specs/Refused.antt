@@ -8,8 +8,8 @@ use Rattle.single_rules.specs.Single.{Call, headerRead, headerWrite, sou
 
 -- the refusals that concern a call by N-1 to N-24 and W205-4, in the order of N-26
 abbrev pub refusalsOf : Call → List ℕ
-refusalsOf (headerRead datagram wanted) = 1 ∷ 2 ∷ 3 ∷ []
-refusalsOf (headerWrite fields out) = 6 ∷ 11 ∷ []
+refusalsOf (headerRead edition datagram wanted) = 6 ∷ 1 ∷ 2 ∷ 3 ∷ []
+refusalsOf (headerWrite edition fields out) = 6 ∷ 11 ∷ []
 refusalsOf (sound datagram wanted) = 1 ∷ 2 ∷ 3 ∷ 4 ∷ 5 ∷ 13 ∷ []
 refusalsOf (filterAdd filter id) = 6 ∷ []
 refusalsOf (filterUnion into other) = 6 ∷ []

@@ -3,7 +3,7 @@
 use mathlib.Core.List.{List, []}
 use mathlib.Core.Option.{Option, none, some}
 use Prim.Native.Nat.{ℕ}
-use Rattle.header.specs.Header.{headerOf, refusal, reading, written}
+use Rattle.header.specs.Header.{readNamed, writtenNamed}
 use Rattle.header.specs.declared.Header.{Header}
 use Rattle.header.specs.declared.Reading.{Reading}
 use Rattle.header.specs.declared.Reading.the-variants.{Fields, Refused}
@@ -12,8 +12,8 @@ use Rattle.filter_rules.specs.Calls.{addId, unite}
 use Rattle.filter_weight.specs.Weighing.{weighing, numbers}
 
 pub data Call : Type 0 where
-  headerRead : (datagram : List ℕ) (wanted : ℕ) → Call
-  headerWrite : (fields : Header) (out : List ℕ) → Call
+  headerRead : (edition : ℕ) (datagram : List ℕ) (wanted : ℕ) → Call
+  headerWrite : (edition : ℕ) (fields : Header) (out : List ℕ) → Call
   sound : (datagram : List ℕ) (wanted : ℕ) → Call
   filterAdd : (filter id : List ℕ) → Call
   filterUnion : (into other : List ℕ) → Call
@@ -21,8 +21,8 @@ pub data Call : Type 0 where
 
 -- the octets that a call is lent to write to; the others are lent only to be read
 abbrev pub lent : Call → List ℕ
-lent (headerRead datagram wanted) = []
-lent (headerWrite fields out) = out
+lent (headerRead edition datagram wanted) = []
+lent (headerWrite edition fields out) = out
 lent (sound datagram wanted) = []
 lent (filterAdd filter id) = filter
 lent (filterUnion into other) = into
@@ -52,8 +52,8 @@ abbrev pub weightAnswer : ℕ × ℕ → Answer
 weightAnswer w = record { refusal = w .0; fields = none; weight = w .1; left = [] }
 
 abbrev pub step : Call → Answer
-step (headerRead datagram wanted) = readAnswer (reading (refusal datagram wanted) (headerOf datagram))
-step (headerWrite fields out) = outputAnswer (written fields out)
+step (headerRead edition datagram wanted) = readAnswer (readNamed edition datagram wanted)
+step (headerWrite edition fields out) = outputAnswer (writtenNamed edition fields out)
 step (sound datagram wanted) = plainAnswer (soundRefusal datagram wanted) []
 step (filterAdd filter id) = outputAnswer (addId filter id)
 step (filterUnion into other) = outputAnswer (unite into other)

@@ -8,6 +8,7 @@ use Prim.Native.Nat.{ℕ, _+_, _-_, min}
 use native.Mathlib.Omega.{arith}
 use lib.Dec.{eqb, ltb}
 use Rattle.octets.proofs.Tests.{by-test}
+use Rattle.header.specs.declared.edition.Edition.{Edition}
 use Rattle.exchange.specs.Judging.{outcomeOf}
 use Rattle.exchange.specs.declared.response.Response.{Response}
 use Rattle.state.specs.Plain.{Outstanding, Opened, newlyOpened, missedCounted, savedServer, sentCookie, polled, reported, received}
@@ -20,8 +21,8 @@ pub record Counted (o : Opened) (polls server : ℕ) : Type 0 where
   pub counted : missedCounted o ≡ min 8 polls
   pub saved : savedServer (o .saved) ≡ server
 
-pub counted-fresh : (timescale c : ℕ) → Counted (newlyOpened timescale c) 0 0
-counted-fresh timescale c = record { missed = refl; counted = refl; saved = refl }
+pub counted-fresh : (e : Edition) (timescale c : ℕ) → Counted (newlyOpened e timescale c) 0 0
+counted-fresh e timescale c = record { missed = refl; counted = refl; saved = refl }
 
 pub counted-polled : (cookie : ℕ) (interleaved : Bool) (o : Opened) {polls server : ℕ} → Counted o polls server
     → Counted (polled cookie interleaved o) (polls + 1) server

@@ -4,17 +4,17 @@ use mathlib.Core.Bool.{Bool, true, false, cond, _||_, and-eq-true-iff}
 use mathlib.Core.List.{List}
 use mathlib.Core.Option.{Option, none, some}
 use Prim.Native.Nat.{ℕ}
-use lib.Dec.{eqb, ltb}
+use lib.Dec.{eqb}
 use lib.ListN.{replicate}
 use lib.Seq.{paste}
 use borrow.Author.Tests.{eqb-true, eqb-false}
-use Rattle.state.specs.Range.{inRange, requestAbsent, savedAbsent, requestInRange, savedInRange}
+use Rattle.state.specs.Range.{inRange, requestAbsent, savedAbsent, requestInRange, timescaleInRange, savedInRange}
 use Rattle.state.specs.Plain.{Exchange, closed, opened, isLast, previous, savedServer}
 use Rattle.state.specs.Numbers.{noneSaved, firstTaken, countTaken, openedIn, requestIn, outstandingIn, cookieIn, exchangeIn, savedIn, cookieOf, outstandingOf, requestOf, savedOf, placeHead, HeadsBack}
 use Rattle.state.specs.Change.{takenAfter}
 use Rattle.state.specs.declared.head.Saved.{Saved}
 use Rattle.state.specs.declared.head.Head.{Head}
-use Rattle.state.proofs.Ranges.{none-saved, none-asked, closed-back, OpenRanges, open-ranges, asked-ranges}
+use Rattle.state.proofs.Ranges.{none-saved, none-asked, closed-back, edition-back, OpenRanges, open-ranges, asked-ranges}
 use Rattle.state.proofs.Flags.{count-first, onward}
 
 pub cookie-back : (k : ℕ) → cookieOf (cookieIn k) ≡ k
@@ -37,11 +37,14 @@ is-last cookie last = go (eqb last 0) refl
     go false e = refl
 
 -- what was saved, or zeros
-module _ (v : Saved) (g : savedInRange v ≡ true) where
+module _ (h : Head) (g : savedInRange h ≡ true) where
+  abbrev v : Saved
+  v = h .saved
+
   by-saved : (P : Option Exchange → Saved → Type 0) → P none noneSaved → P (some (exchangeIn v)) v → P (savedIn v) v
   by-saved P a b = go (eqb (v .t4) 0) g
     where
-      go : (t : Bool) → cond t (savedAbsent v) (ltb (v .timescale) 256) ≡ true → P (cond t none (some (exchangeIn v))) v
+      go : (t : Bool) → cond t (savedAbsent v) (timescaleInRange h (v .timescale)) ≡ true → P (cond t none (some (exchangeIn v))) v
       go true k = subst⁻¹ (P none) (none-saved v k) a
       go false k = b
 
@@ -67,7 +70,7 @@ pub head-back : (h : Head) (f : List ℕ) → OpenRanges h → placeHead (opened
 head-back h f o =
     let q = request-back h (o .request) in
     λ i. record {
-      state = sym (o .state) i;
+      state = edition-back (h .state) (o .edition) i;
       timescale = h .timescale;
       chunk = h .chunk;
       next = h .next;
@@ -75,7 +78,7 @@ head-back h f o =
       last = record { 0 = cookie-back (h .last .0) i };
       outstanding = q .0 i;
       request = q .1 i;
-      saved = saved-back (h .saved) (o .saved) i;
+      saved = saved-back h (o .saved) i;
       missed = h .missed;
     }
 

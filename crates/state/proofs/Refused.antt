@@ -7,7 +7,7 @@ use Prim.Native.Nat.{ℕ}
 use lib.Dec.{eqb, ltb}
 use Rattle.octets.proofs.Tests.{by-test}
 use Rattle.poll_request.specs.Request.{pollLength}
-use Rattle.state.specs.Rules.{offered}
+use Rattle.state.specs.Rules.{openable}
 use Rattle.state.specs.Plain.{Outstanding, Place, closed, opened, isLast, onRequest, placeDo}
 use Rattle.state.specs.declared.event.Event.{Event}
 use Rattle.state.specs.declared.event.Event.the-variants.{Open, Close, Poll, Sent, Receive, Look}
@@ -25,14 +25,14 @@ Unchanged p w = eqb (w .0 .refusal) 0 ≡ false → w .1 ≡ p
 
 pub refused-same : (e : Event) (datagram : List ℕ) (p : Place) → eqb (placeDo e datagram p .0 .refusal) 0 ≡ false → placeDo e datagram p .1 ≡ p
 unfolding placeDo Unchanged
-refused-same (Open timescale c) datagram closed = by-test (Unchanged closed) (offered c) (λ t z. absurd (true≢false z)) (λ t z. refl)
-refused-same (Open timescale c) datagram (opened o) = by-test (Unchanged (opened o)) (offered c) (λ t z. refl) (λ t z. refl)
+refused-same (Open edition timescale c) datagram closed = by-test (Unchanged closed) (openable edition timescale c) (λ t z. absurd (true≢false z)) (λ t z. refl)
+refused-same (Open edition timescale c) datagram (opened o) = by-test (Unchanged (opened o)) (openable edition timescale c) (λ t z. refl) (λ t z. refl)
 refused-same Close datagram closed = λ z. refl
 refused-same Close datagram (opened o) = λ z. absurd (true≢false z)
 refused-same (Poll cookie interleaved room) datagram closed = λ z. refl
 refused-same (Poll cookie interleaved room) datagram (opened o) =
     by-test (Unchanged (opened o)) (eqb (cookie .0) 0 || isLast (cookie .0) (o .last)) (λ t z. refl)
-    (λ t. by-test (Unchanged (opened o)) (ltb room (pollLength (o .chunk))) (λ u z. refl) (λ u z. absurd (true≢false z)))
+    (λ t. by-test (Unchanged (opened o)) (ltb room (pollLength (o .edition) (o .chunk))) (λ u z. refl) (λ u z. absurd (true≢false z)))
 refused-same (Sent t1) datagram closed = by-test (Unchanged closed) (eqb t1 0) (λ t z. refl) (λ t z. refl)
 refused-same (Sent t1) datagram (opened o) =
     by-test (Unchanged (opened o)) (eqb t1 0) (λ t z. refl)

@@ -6,6 +6,7 @@ use mathlib.Core.Option.{Option, none, some}
 use Prim.Native.Nat.{ℕ, _+_, _-_, _^_, _<_}
 use lib.Dec.{eqb}
 use lib.ListN.{replicate}
+use Rattle.header.specs.Edition.{editionNumber, editionOf}
 use Rattle.state.specs.Plain.{Outstanding, Exchange, Opened, Place, closed, opened}
 use Rattle.state.specs.Range.{inRange}
 use Rattle.state.specs.declared.head.Request.{Request}
@@ -66,7 +67,7 @@ savedOf (some v) = record {
 abbrev pub placeHead : Place → Head
 placeHead closed = closedHead
 placeHead (opened o) = record {
-  state = 1;
+  state = editionNumber (o .edition);
   timescale = o .timescale;
   chunk = o .chunk;
   next = o .next;
@@ -101,6 +102,7 @@ savedIn v = cond (eqb (v .t4) 0) none (some (exchangeIn v))
 
 abbrev pub openedIn : Head → List ℕ → Opened
 openedIn h f = record {
+  edition = editionOf (h .state);
   timescale = h .timescale;
   chunk = h .chunk;
   next = h .next;

@@ -10,12 +10,12 @@ use lib.ListN.{length, getD, set, drop}
 use lib.Seq.{getD-set-same}
 use Rattle.poll_request.specs.Request.{pollOctets, pollLength}
 use Rattle.poll_request.specs.declared.Asked.{Asked}
-use Rattle.state.specs.Plain.{Opened, Place, closed, opened, polled as polledPlace, placeDo}
+use Rattle.state.specs.Plain.{Opened, Place, closed, opened, placeEdition, polled as polledPlace, placeDo}
 use Rattle.state.specs.declared.event.Event.{Event}
 use Rattle.state.specs.declared.event.Event.the-variants.{Poll}
 use Rattle.state.specs.declared.event.Reply.{Reply}
 use Rattle.state.proofs.Chunks.{chunk-size}
-use Rattle.association.proofs.Reached.{GoodPlace, GoodOpened, ranges as open-ranges, sent-fits}
+use Rattle.association.proofs.Reached.{GoodPlace, GoodOpened, ranges as open-ranges, timescale-held, sent-fits}
 use Rattle.order.specs.Order.{TaggedCall, after, EveryCall}
 use Rattle.order.proofs.Permutations.{every-left, every-right}
 use Rattle.order.proofs.Simulate.{after-append}
@@ -26,7 +26,7 @@ use Rattle.client_rules.specs.Claim.{placeAfter}
 use Rattle.client_rules.proofs.Tables.{GoodTable, good-at, atPlace}
 use Rattle.client_rules.proofs.Simulate.{at-in, at-out}
 use Rattle.client_rules.proofs.Demand3.{simulates, good-reached, call-reached}
-use Rattle.together.specs.Together.{Polling, pollOf, polling, callsOf, StaysOutstanding, Asks}
+use Rattle.together.specs.Together.{Polling, pollOf, polling, pollEdition, callsOf, StaysOutstanding, Asks}
 use Rattle.together.proofs.Served.{Ranges}
 use Rattle.client_rules.proofs.Refused.{number-of}
 use Rattle.together.proofs.Waiting.{askedOf, Polled, polled-place, Waits, polled-waits, calls-wait}
@@ -36,10 +36,11 @@ pub record Written (k : Polling) : Type 0 where
   pub inside : k .association < 16
   -- what is asked
   pub asked : Asked
+  pub edition : asked .edition ≡ pollEdition k
   pub ranges : Ranges asked (k .cookie) (k .exponent)
   -- what is written
   pub answer : polling k .0
-      ≡ writtenAnswer (pollLength (asked .chunk)) (pollOctets asked (k .cookie) (k .exponent) (k .interleaved) ++ drop (pollLength (asked .chunk)) (k .out))
+      ≡ writtenAnswer (pollLength (asked .edition) (asked .chunk)) (pollOctets asked (k .cookie) (k .exponent) (k .interleaved) ++ drop (pollLength (asked .edition) (asked .chunk)) (k .out))
   -- the place waits for its answer
   pub waits : Waits asked (k .cookie) (placeAfter (callsOf k) (k .association))
 
@@ -110,7 +111,7 @@ module _ (k : Polling) (h : Asks k) where
       let low = size .low in
       record {
         good = record { four = size .fours; least = omega arith; inside = before .next-ends };
-        timescale = before .timescale;
+        timescale = timescale-held o good-before;
         poll = later-typed .0 .2;
         client = later-typed .0 .1;
         server = sent-fits o good-before (k .interleaved);
@@ -136,6 +137,7 @@ module _ (k : Polling) (h : Asks k) where
   written = record {
     inside = inside;
     asked = askedOf (k .interleaved) o;
+    edition = sym (ap placeEdition (at .before));
     ranges = ranges;
     answer = plain-answer ∙ ap (pollAnswer (k .cookie) (k .exponent) (k .interleaved) (k .out)) (ap (λ (w : Reply × List Place). w .0) here ∙ at .reply);
     waits = waits;

@@ -7,7 +7,7 @@ use lib.Dec.{eqb, ltb}
 use lib.ListN.{length, getD, set}
 use lib.Seq.{set-getD}
 use Rattle.exchange.specs.Response.{responseOf}
-use Rattle.state.specs.Plain.{Place, closed}
+use Rattle.state.specs.Plain.{Place, closed, placeEdition}
 use Rattle.state.specs.declared.event.Event.{Event}
 use Rattle.state.specs.declared.event.Event.the-variants.{Poll, Receive}
 use Rattle.state.specs.declared.event.Reply.{Reply}
@@ -29,10 +29,10 @@ event-refused a e datagram ps =
 pub call-refused : (c : Call) (ps : List Place) → eqb (stepPlain c ps .0 .refusal) 0 ≡ false → stepPlain c ps .1 ≡ ps
 unfolding clearing
 call-refused clearTable ps n = absurd (true≢false n)
-call-refused (openOne a timescale c) ps n = event-refused a _ _ ps n
+call-refused (openOne a edition timescale c) ps n = event-refused a _ _ ps n
 call-refused (closeOne a) ps n = event-refused a _ _ ps n
 call-refused (poll a cookie exponent interleaved out) ps n = event-refused a _ _ ps (sym (ap (λ (k : ℕ). eqb k 0) (number-of (atPlace a (Poll (record { 0 = cookie }) interleaved (length out)) [] ps .0 .refusal) _ out refl)) ∙ n)
 call-refused (sent a t1) ps n = event-refused a _ _ ps n
-call-refused (receive a datagram t4) ps n = event-refused a _ _ ps (sym (ap (λ (k : ℕ). eqb k 0) (number-of (atPlace a (Receive (responseOf datagram t4)) datagram ps .0 .refusal) _ [] refl)) ∙ n)
+call-refused (receive a datagram t4) ps n = event-refused a _ _ ps (sym (ap (λ (k : ℕ). eqb k 0) (number-of (atPlace a (Receive (responseOf (placeEdition (getD ps a closed)) datagram t4)) datagram ps .0 .refusal) _ [] refl)) ∙ n)
 call-refused (loopVerdict a id) ps n = refl
 call-refused (publish selected id out) ps n = refl

@@ -30,7 +30,7 @@ use Rattle.octets.proofs.Tests.{by-test}
 
 -- what a poll asks of an open place
 abbrev pub askedOf : Bool → Opened → Asked
-askedOf interleaved o = record { timescale = o .timescale; chunk = o .chunk; offset = o .next; server = record { 0 = sentCookie interleaved o } }
+askedOf interleaved o = record { edition = o .edition; timescale = o .timescale; chunk = o .chunk; offset = o .next; server = record { 0 = sentCookie interleaved o } }
 
 -- a poll that is not refused
 pub record Polled (cookie : ℕ) (interleaved : Bool) (p : Place) (w : Reply × Place) : Type 0 where
@@ -47,13 +47,14 @@ polled-place cookie interleaved room closed z = absurd (omega arith)
 polled-place cookie interleaved room (opened o) z =
     let P : Reply × Place → Type 0 = λ w. w .0 .refusal ≡ 0 → Polled cookie interleaved (opened o) w in
     by-test P (eqb cookie 0 || isLast cookie (o .last)) (λ t z. absurd (omega arith))
-    (λ t. by-test P (ltb room (pollLength (o .chunk))) (λ u z. absurd (omega arith))
+    (λ t. by-test P (ltb room (pollLength (o .edition) (o .chunk))) (λ u z. absurd (omega arith))
     (λ u z. record { place = o; before = refl; reply = refl; left = refl })) z
 
 -- a place waits for the answer to a request
 pub record Waits (q : Asked) (cookie : ℕ) (p : Place) : Type 0 where
   pub place : Opened
   pub waiting : p ≡ opened place
+  pub edition : place .edition ≡ q .edition
   pub chunk : place .chunk ≡ q .chunk
   pub request : Outstanding
   pub outstanding : place .outstanding ≡ some request
@@ -66,6 +67,7 @@ pub polled-waits : (cookie : ℕ) (interleaved : Bool) (o : Opened) → Waits (a
 polled-waits cookie interleaved o = record {
   place = polled cookie interleaved o;
   waiting = refl;
+  edition = refl;
   chunk = refl;
   request = record { client = cookie; server = sentCookie interleaved o; offset = o .next; t1 = 0 };
   outstanding = refl;
@@ -92,6 +94,7 @@ module _ (q : Asked) (cookie : ℕ) where
           record {
             place = reported t1 o k;
             waiting = refl;
+            edition = ap (λ (x : Opened). x .edition) same ∙ h .edition;
             chunk = ap (λ (x : Opened). x .chunk) same ∙ h .chunk;
             request = record { client = k .client; server = k .server; offset = k .offset; t1 = t1 };
             outstanding = refl;
@@ -123,7 +126,7 @@ module _ (q : Asked) (cookie : ℕ) where
     call-waits : (c : Call) (ps : List Place) → GoodTable ps → leavesOutstanding a c ≡ true → Waits q cookie (getD ps a closed)
         → Waits q cookie (getD (stepPlain c ps .1) a closed)
     call-waits clearTable ps g n h = let z : _≡_ {A = ℕ} 0 1 = cc in absurd (omega arith)
-    call-waits (openOne b timescale c) ps g n h = other-waits b _ _ ps n h
+    call-waits (openOne b edition timescale c) ps g n h = other-waits b _ _ ps n h
     call-waits (closeOne b) ps g n h = other-waits b _ _ ps n h
     call-waits (poll b k exponent interleaved out) ps g n h = other-waits b _ _ ps n h
     call-waits (sent b t1) ps g n h = report-waits b t1 ps g h (eqb b a) refl

@@ -1,4 +1,5 @@
 -- The laws of words. Assumes nothing.
 pub mod Writing
+pub mod Lines
 pub mod Numerals
 pub mod OctetWords

@@ -120,14 +120,15 @@ module _ (s : List ℕ) where
       → digitsOf 10 most s ≡ unsignedOf most s
   unsigned-decimal most a b e f t = sym (ap (λ (k : Bool). cond k (digitsOf 16 most (drop 2 s)) (digitsOf 10 most s)) t) ∙ unsigned-as most a b e f
 
-  signed-as : (a : ℕ) → a ≡ getAt s 0 1 → cond (eqb a 45) (negated (unsignedOf 128 (drop 1 s))) (unsignedOf 127 s) ≡ signedOf s
+  signed-as : (most a : ℕ) → a ≡ getAt s 0 1
+      → cond (eqb a 45) (negated (unsignedOf (most + 1) (drop 1 s))) (unsignedOf most s) ≡ signedOf most s
   unfolding signedOf
-  signed-as a e = rw e
+  signed-as most a e = rw e
 
-  pub signed-plain : (a : ℕ) → a ≡ getAt s 0 1 → (a ≡ 45 → ⊥) → unsignedOf 127 s ≡ signedOf s
-  signed-plain a e t =
-      sym (ap (λ (k : Bool). cond k (negated (unsignedOf 128 (drop 1 s))) (unsignedOf 127 s)) (ne-eqb a 45 t)) ∙ signed-as a e
+  pub signed-plain : (most a : ℕ) → a ≡ getAt s 0 1 → (a ≡ 45 → ⊥) → unsignedOf most s ≡ signedOf most s
+  signed-plain most a e t =
+      sym (ap (λ (k : Bool). cond k (negated (unsignedOf (most + 1) (drop 1 s))) (unsignedOf most s)) (ne-eqb a 45 t)) ∙ signed-as most a e
 
-  pub signed-minus : (a : ℕ) → a ≡ getAt s 0 1 → a ≡ 45 → negated (unsignedOf 128 (drop 1 s)) ≡ signedOf s
-  signed-minus a e t =
-      sym (ap (λ (k : Bool). cond k (negated (unsignedOf 128 (drop 1 s))) (unsignedOf 127 s)) (eq-eqb a 45 t)) ∙ signed-as a e
+  pub signed-minus : (most a : ℕ) → a ≡ getAt s 0 1 → a ≡ 45 → negated (unsignedOf (most + 1) (drop 1 s)) ≡ signedOf most s
+  signed-minus most a e t =
+      sym (ap (λ (k : Bool). cond k (negated (unsignedOf (most + 1) (drop 1 s))) (unsignedOf most s)) (eq-eqb a 45 t)) ∙ signed-as most a e

@@ -43,9 +43,9 @@ unsignedOf most s = cond (eqb (getAt s 0 1) 48 && eqb (getAt s 1 1) 120) (digits
 abbrev pub negated : Value → Value
 negated v = value ((2 ^ 64 - v .value) % 2 ^ 64) (v .problem)
 
--- -128 to 127
-unfoldable pub signedOf : List ℕ → Value
-signedOf s = cond (eqb (getAt s 0 1) 45) (negated (unsignedOf 128 (drop 1 s))) (unsignedOf 127 s)
+-- -(`most` + 1) to `most`
+unfoldable pub signedOf : ℕ → List ℕ → Value
+signedOf most s = cond (eqb (getAt s 0 1) 45) (negated (unsignedOf (most + 1) (drop 1 s))) (unsignedOf most s)
 
 -- the largest number of a letter: b, h, w are 8, 16, 32 bits, any other 64
 unfoldable pub mostOf : ℕ → ℕ
@@ -55,6 +55,9 @@ mostOf letter =
     (cond (eqb letter 119) 4294967295
     18446744073709551615))
 
--- s is 8 bits with a sign
+-- s is 8 bits with a sign, t 16
 unfoldable pub wordValue : ℕ → List ℕ → Value
-wordValue letter s = cond (eqb letter 115) (signedOf s) (unsignedOf (mostOf letter) s)
+wordValue letter s =
+    cond (eqb letter 115) (signedOf 127 s)
+    (cond (eqb letter 116) (signedOf 32767 s)
+    (unsignedOf (mostOf letter) s))

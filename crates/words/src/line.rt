@@ -1,11 +1,12 @@
 // The words of a line, by their places in it or by their letters in a row. The remainders only say that a number fits.
 use crate::number::read;
 use octets::sign::from_octet;
+use octets::sign::from_word;
 use text::find;
 use text::piece;
 ghost use mathlib.Core.Path.{_≡_};
 ghost use Prim.Native.Nat.{_%_};
-ghost use Rattle.words.specs.Line.{numberAt, bitsAt, signedAt, wordOf};
+ghost use Rattle.words.specs.Line.{numberAt, bitsAt, signedAt, signed16At, wordOf};
 
 pub fn u64_at(line: &[u8], word: usize) -> u64
     ensures { λ r. ⌜ r ≡ numberAt (now (line .entry)) word ⌝ }
@@ -37,6 +38,13 @@ pub fn i8_at(line: &[u8], word: usize) -> i8
 {
     let value = read(piece(line, word, b' '), b's');
     from_octet((value.value % 256) as u8)
+}
+
+pub fn i16_at(line: &[u8], word: usize) -> i16
+    ensures { λ r. ⌜ r ≡ signed16At (now (line .entry)) word ⌝ }
+{
+    let value = read(piece(line, word, b' '), b't');
+    from_word((value.value % 65536) as u16)
 }
 
 // The word whose letter stands in the second word of a row, or none.

@@ -96,14 +96,15 @@ fn unsigned(word: &[u8], most: u64) -> Value
     digits(word, 10, most)
 }
 
-// A number from -128 to 127, a negative one in two's complement of 64 bits.
-fn signed(word: &[u8]) -> Value
-    ensures { λ r. ⌜ r ≡ signedOf (now (word .entry)) ⌝ }
+// A number of at most `most`; a negative one may be one more in size, and is in two's complement of 64 bits.
+fn signed(word: &[u8], most: u64) -> Value
+    requires { ⌜ (16 ≤ most) × (most ≤ 32767) ⌝ }
+    ensures { λ r. ⌜ r ≡ signedOf most (now (word .entry)) ⌝ }
 {
     if get8(word, 0) != b'-' {
-        return unsigned(word, 127);
+        return unsigned(word, most);
     }
-    let size = unsigned(rest(word, 1), 128);
+    let size = unsigned(rest(word, 1), most + 1);
     Value {
         value: std::num::wrapping_sub_u64(0, size.value),
         problem: size.problem,
@@ -122,12 +123,15 @@ fn most(letter: u8) -> u64
     }
 }
 
-// The number that a word is, by its letter: b, h, w for 8, 16, 32 bits, s for 8 bits with a sign, any other for 64.
+// The number that a word is, by its letter: b, h, w for 8, 16, 32 bits, s and t for 8 and 16 bits with a sign, any other for 64.
 pub fn read(word: &[u8], letter: u8) -> Value
     ensures { λ r. ⌜ r ≡ wordValue letter (now (word .entry)) ⌝ }
 {
     if letter == b's' {
-        return signed(word);
+        return signed(word, 127);
+    }
+    if letter == b't' {
+        return signed(word, 32767);
     }
     unsigned(word, most(letter))
 }

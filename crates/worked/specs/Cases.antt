@@ -9,6 +9,7 @@ use lib.IntN.{ℤ, pos, negsuc, negℤ}
 use lib.ListN.{length, getD, take, replicate}
 use Rattle.octets.specs.Number.{octets}
 use Rattle.header.specs.Header.{headerOctets}
+use Rattle.header.specs.declared.edition.Edition.the-variants.{Seven}
 use Rattle.header.specs.declared.Header.{Header}
 use Rattle.chain.specs.Chain.{soundRefusal}
 use Rattle.field_role.specs.Role.{goodRequest}
@@ -31,6 +32,7 @@ M = row
 -- a header of zeros but leap and mode
 unfoldable pub bare : ℕ → ℕ → Header
 bare l m = record {
+  edition = Seven;
   leap = l;
   mode = m;
   stratum = 0;
@@ -38,6 +40,7 @@ bare l m = record {
   precision = pos 0;
   timescale = 0;
   era = 0;
+  «timescale_offset» = pos 0;
   flags = 0;
   «root_delay» = 0;
   «root_dispersion» = 0;

@@ -7,7 +7,7 @@ use ntp5::ffi;
 #[allow(missing_docs)]
 pub enum Call {
     Clear,
-    Open { association: u8, timescale: u8, chunk: u16 },
+    Open { association: u8, edition: u8, timescale: u8, chunk: u16 },
     Close { association: u8 },
     Poll { association: u8, cookie: u64, exponent: i8, interleaved: bool, out: Vec<u8> },
     Sent { association: u8, t1: u64 },
@@ -17,8 +17,8 @@ pub enum Call {
     StoreClear,
     Report { cookie: u64, time: u64 },
     Answer(Box<Answering>),
-    HeaderRead { mode: u8, datagram: Vec<u8> },
-    HeaderWrite { header: ffi::Header, out: Vec<u8> },
+    HeaderRead { edition: u8, mode: u8, datagram: Vec<u8> },
+    HeaderWrite { edition: u8, header: ffi::Header, out: Vec<u8> },
     Sound { mode: u8, datagram: Vec<u8> },
     Add { filter: Vec<u8>, id: Vec<u8> },
     Union { into: Vec<u8>, other: Vec<u8> },
@@ -32,6 +32,7 @@ pub enum Call {
 #[derive(Clone, Debug, PartialEq, Eq)]
 #[allow(missing_docs)]
 pub struct Answering {
+    pub edition: u8,
     pub request: Vec<u8>,
     pub header: ffi::Header,
     pub filter: Vec<u8>,
@@ -96,6 +97,29 @@ pub trait Side {
 }
 
 impl Call {
+    /// The number of the edition that the call names, if it names one.
+    pub fn edition(&self) -> Option<u8> {
+        match self {
+            Call::Open { edition, .. }
+            | Call::HeaderRead { edition, .. }
+            | Call::HeaderWrite { edition, .. } => Some(*edition),
+            Call::Answer(args) => Some(args.edition),
+            _ => None,
+        }
+    }
+
+    /// The same call in another edition.
+    pub fn in_edition(mut self, number: u8) -> Call {
+        match &mut self {
+            Call::Open { edition, .. }
+            | Call::HeaderRead { edition, .. }
+            | Call::HeaderWrite { edition, .. } => *edition = number,
+            Call::Answer(args) => args.edition = number,
+            _ => {}
+        }
+        self
+    }
+
     /// Whether the call is made on a table.
     pub fn on_table(&self) -> bool {
         matches!(

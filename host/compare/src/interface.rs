@@ -118,6 +118,7 @@ fn c_type(text: &str) -> String {
         "uint8_t" => "u8",
         "int8_t" => "i8",
         "uint16_t" => "u16",
+        "int16_t" => "i16",
         "uint32_t" => "u32",
         "uint64_t" => "u64",
         "int64_t" => "i64",

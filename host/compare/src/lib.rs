@@ -4,14 +4,15 @@
 //! [`call::Call`] is a call with its arguments. It is made on three sides: the
 //! [`library`], the reference's [`plain`] table and store, and the reference on
 //! [`lent`](plain::Lent) ones. [`make`] draws calls at random; [`met`] counts what
-//! they led to, and [`missed`] follows missed polls; [`line`](mod@line) writes a call
-//! as the `cases` program reads it.
+//! they led to, [`missed`] follows missed polls, and [`editions`] says what must be met of
+//! each edition; [`line`](mod@line) writes a call as the `cases` program reads it.
 #![forbid(unsafe_code)]
 #![warn(missing_docs)]
 
 pub mod bench;
 pub mod call;
 mod convert;
+pub mod editions;
 pub mod interface;
 pub mod library;
 pub mod line;

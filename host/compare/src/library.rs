@@ -3,6 +3,7 @@
 use crate::call::{Answering, Call, Outcome, Returned, Side};
 use ntp5::ffi::calls;
 use ntp5::{Occasion, Server, ServerCookie};
+use reference::record::NUMBERS;
 
 /// Octets, or numbers, before and after each lent part.
 const GUARD: usize = 32;
@@ -84,6 +85,11 @@ impl Library {
         }
     }
 
+    /// The first number of an association's record; none if the table has no such record.
+    pub fn state(&self, association: usize) -> Option<u64> {
+        self.table.part().get(NUMBERS * association).copied()
+    }
+
     /// Lends `read` to be read and `written` to be written.
     fn lend(
         &mut self,
@@ -114,6 +120,7 @@ impl Library {
             precision: args.header.precision,
             timescale: args.header.timescale,
             era: args.header.era,
+            timescale_offset: args.header.timescale_offset,
             flags: args.header.flags,
             root_delay: args.header.root_delay,
             root_dispersion: args.header.root_dispersion,
@@ -122,7 +129,8 @@ impl Library {
         };
         let mut outcome = self.lend(&args.request, &args.out, |side, request, out| {
             let store = side.store.part_mut();
-            Returned::Written(calls::answer(store, request, &occasion, &server, out))
+            let edition = args.edition;
+            Returned::Written(calls::answer(store, edition, request, &occasion, &server, out))
         });
         let stray = filter.stray_read_only(&args.filter);
         let stray = stray.or_else(|| information.stray_read_only(&args.information));
@@ -136,8 +144,8 @@ impl Library {
         let table = self.table.part_mut();
         match call {
             Call::Clear => refusal(calls::clear(table)),
-            &Call::Open { association, timescale, chunk } => {
-                refusal(calls::open(table, association, timescale, chunk))
+            &Call::Open { association, edition, timescale, chunk } => {
+                refusal(calls::open(table, association, edition, timescale, chunk))
             }
             &Call::Close { association } => refusal(calls::close(table, association)),
             &Call::Sent { association, t1 } => refusal(calls::sent(table, association, t1)),
@@ -173,11 +181,14 @@ impl Library {
     /// The calls without table and store.
     fn single(&mut self, call: &Call) -> Outcome {
         match call {
-            Call::HeaderRead { mode, datagram } => self.lend(datagram, &[], |_, datagram, _| {
-                Returned::Read(calls::header_read(datagram, *mode))
+            &Call::HeaderRead { edition, mode, ref datagram } => {
+                self.lend(datagram, &[], |_, datagram, _| {
+                    Returned::Read(calls::header_read(edition, datagram, mode))
+                })
+            }
+            Call::HeaderWrite { edition, header, out } => self.lend(&[], out, |_, _, out| {
+                Returned::Refusal(calls::header_write(*edition, *header, out))
             }),
-            Call::HeaderWrite { header, out } => self
-                .lend(&[], out, |_, _, out| Returned::Refusal(calls::header_write(*header, out))),
             Call::Sound { mode, datagram } => self.lend(datagram, &[], |_, datagram, _| {
                 Returned::Refusal(calls::sound(datagram, *mode))
             }),

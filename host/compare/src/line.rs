@@ -46,22 +46,24 @@ fn values(h: &Header) -> String {
 fn answer(args: &Answering) -> String {
     let h = &args.header;
     format!(
-        "answer {} {:#x} {:#x} {:#x} {} {} {} {} {}",
+        "answer {} {} {:#x} {:#x} {:#x} {} {} {} {} {} {}",
+        args.edition,
         octets(&args.request),
         h.receive,
         h.transmit,
         h.server_cookie,
         h.leap,
         values(h),
+        h.timescale_offset,
         octets(&args.filter),
         octets(&args.information),
         octets(&args.out)
     )
 }
 
-fn write(h: &Header, out: &[u8]) -> String {
+fn write(edition: u8, h: &Header, out: &[u8]) -> String {
     format!(
-        "write {} {} {} {:#x} {:#x} {:#x} {:#x} {}",
+        "write {edition} {} {} {} {:#x} {:#x} {:#x} {:#x} {} {}",
         h.leap,
         h.mode,
         values(h),
@@ -69,6 +71,7 @@ fn write(h: &Header, out: &[u8]) -> String {
         h.client_cookie,
         h.receive,
         h.transmit,
+        h.timescale_offset,
         octets(out)
     )
 }
@@ -77,8 +80,8 @@ fn write(h: &Header, out: &[u8]) -> String {
 pub fn line(call: &Call, store: &[u8]) -> String {
     match call {
         Call::Clear => "clear".into(),
-        Call::Open { association, timescale, chunk } => {
-            format!("open {association} {timescale} {chunk}")
+        Call::Open { association, edition, timescale, chunk } => {
+            format!("open {association} {edition} {timescale} {chunk}")
         }
         Call::Close { association } => format!("close {association}"),
         Call::Poll { association, cookie, exponent, interleaved, out } => {
@@ -96,8 +99,10 @@ pub fn line(call: &Call, store: &[u8]) -> String {
         Call::StoreClear => format!("store {}", store.len() / 16),
         Call::Report { cookie, time } => format!("report {cookie:#x} {time:#x}"),
         Call::Answer(args) => answer(args),
-        Call::HeaderRead { mode, datagram } => format!("header {mode} {}", octets(datagram)),
-        Call::HeaderWrite { header, out } => write(header, out),
+        Call::HeaderRead { edition, mode, datagram } => {
+            format!("header {edition} {mode} {}", octets(datagram))
+        }
+        Call::HeaderWrite { edition, header, out } => write(*edition, header, out),
         Call::Sound { mode, datagram } => format!("sound {mode} {}", octets(datagram)),
         Call::Add { filter, id } => format!("add {} {}", octets(filter), octets(id)),
         Call::Union { into, other } => format!("union {} {}", octets(into), octets(other)),
@@ -137,5 +142,35 @@ mod tests {
         let poll = Call::Poll { association: 3, cookie: 16, exponent: -6, interleaved: true, out };
         assert_eq!(line(&poll, &[]), "poll 3 0x10 -6 interleaved 00*4");
         assert_eq!(line(&Call::StoreClear, &[0; 64]), "store 4");
+        let open = Call::Open { association: 3, edition: 1, timescale: 15, chunk: 16 };
+        assert_eq!(line(&open, &[]), "open 3 1 15 16");
+        let header = Call::HeaderRead { edition: 7, mode: 4, datagram: vec![0x2C] };
+        assert_eq!(line(&header, &[]), "header 7 4 2c");
+        let header = Header {
+            leap: 1,
+            mode: 2,
+            stratum: 3,
+            poll: -4,
+            precision: -5,
+            timescale: 6,
+            era: 7,
+            timescale_offset: -37,
+            flags: 8,
+            root_delay: 9,
+            root_dispersion: 10,
+            server_cookie: 11,
+            client_cookie: 12,
+            receive: 13,
+            transmit: 14,
+        };
+        let (edition, out) = (1, vec![0; 4]);
+        let write = Call::HeaderWrite { edition, header, out: out.clone() };
+        let values = "3 -4 -5 6 7 0x8 0x9 0xa";
+        let expected = format!("write 1 1 2 {values} 0xb 0xc 0xd 0xe -37 00*4");
+        assert_eq!(line(&write, &[]), expected);
+        let (request, filter, information) = (vec![0x2B], vec![1; 5], vec![2]);
+        let args = Answering { edition, request, header, filter, information, out };
+        let expected = format!("answer 1 2b 0xd 0xe 0xb 1 {values} -37 01*5 02 00*4");
+        assert_eq!(line(&Call::Answer(Box::new(args)), &[]), expected);
     }
 }

@@ -1,11 +1,12 @@
 //! What the calls led to, counted, and what must have been met.
 
 use crate::call::{Call, Outcome, Returned};
+use crate::editions::{self, words};
 use crate::make::head::Clause;
 use crate::missed;
 use reference::association::CHUNK_SIZES;
 use reference::chain::{Fields, MAC};
-use reference::header::INTERLEAVED;
+use reference::edition::Edition;
 use std::collections::BTreeMap;
 use std::fmt;
 
@@ -14,18 +15,19 @@ use std::fmt;
 pub struct Met(BTreeMap<String, u64>);
 
 impl Met {
-    /// Counts what a call led to.
-    pub fn count(&mut self, call: &Call, outcome: &Outcome) {
-        let key = format!("{} {}", name(call), described(call, outcome));
+    /// Counts what a call in this edition, or in none, led to.
+    pub fn count(&mut self, call: &Call, outcome: &Outcome, edition: Option<Edition>) {
+        let (words, edition) = (words(edition), edition.unwrap_or(Edition::Seven));
+        let key = format!("{} {}{words}", name(call), described(call, outcome, edition));
         *self.0.entry(key).or_default() += 1;
         if let Some(mac) = mac_outcome(call, outcome.returned.refusal()) {
-            self.also(&mac);
+            self.also(&format!("{mac}{words}"));
         }
         if matches!(call, Call::Answer(_)) && outcome.returned.refusal() == 0 {
             let Returned::Written(written) = outcome.returned else { return };
             let fields = Fields::of(&outcome.out[..written.length.into()]);
             for field in fields.map_while(Result::ok) {
-                self.also(&format!("answer field {:04x}", field.kind));
+                self.also(&format!("answer field {:04x}{words}", field.kind));
             }
         }
     }
@@ -87,9 +89,17 @@ pub(crate) fn mode(interleaved: bool) -> &'static str {
     }
 }
 
-/// Whether the flag is set in a datagram's header.
-pub fn interleaved(datagram: &[u8]) -> &'static str {
-    mode(u16::from_be_bytes([datagram[6], datagram[7]]) & INTERLEAVED != 0)
+/// The flags of a datagram's header.
+pub(crate) fn flags(edition: Edition, datagram: &[u8]) -> u16 {
+    match edition {
+        Edition::One => datagram[4].into(),
+        Edition::Seven => u16::from_be_bytes([datagram[6], datagram[7]]),
+    }
+}
+
+/// Whether a datagram's header says interleaved.
+pub fn interleaved(edition: Edition, datagram: &[u8]) -> &'static str {
+    mode(flags(edition, datagram) & edition.interleaved() != 0)
 }
 
 /// What a datagram with a MAC led to: taken with the MAC as its last field, refused with 13
@@ -116,7 +126,7 @@ fn mac_outcome(call: &Call, refusal: u8) -> Option<String> {
 }
 
 /// The outcomes that [`mac_outcome`] tells apart.
-const MAC_OUTCOMES: [&str; 5] = [
+pub(crate) const MAC_OUTCOMES: [&str; 5] = [
     "0, a MAC last",
     "13, a MAC and another field last",
     "13, a MAC and a MAC last",
@@ -125,7 +135,7 @@ const MAC_OUTCOMES: [&str; 5] = [
 ];
 
 /// An outcome in words: the refusal, or 0 and what sets it apart from other successes.
-fn described(call: &Call, outcome: &Outcome) -> String {
+fn described(call: &Call, outcome: &Outcome, edition: Edition) -> String {
     let refusal = outcome.returned.refusal();
     if refusal != 0 {
         return refusal.to_string();
@@ -133,16 +143,19 @@ fn described(call: &Call, outcome: &Outcome) -> String {
     match (call, &outcome.returned) {
         (Call::Poll { .. }, _) => {
             let known = outcome.out[16..24] != [0; 8];
-            format!("0 {}{}", interleaved(&outcome.out), if known { " with cookie" } else { "" })
+            let mode = interleaved(edition, &outcome.out);
+            format!("0 {mode}{}", if known { " with cookie" } else { "" })
         }
         (Call::Receive { datagram, .. }, Returned::Received(received)) => {
             let (judgement, chunk) = (received.judgement, received.chunk);
-            format!("0 {} judgement {judgement} chunk {chunk}", interleaved(datagram))
+            let mode = interleaved(edition, datagram);
+            format!("0 {mode} judgement {judgement} chunk {chunk}")
         }
         (_, Returned::Verdict(verdict)) => format!("0 {}", verdict.verdict),
         (Call::Publish { selected, .. }, _) => format!("0 of {}", selected.count_ones().min(2)),
         (Call::Answer(args), _) => {
-            format!("0 {} to {}", interleaved(&outcome.out), interleaved(&args.request))
+            let [sent, asked] = [&outcome.out, &args.request].map(|d| interleaved(edition, d));
+            format!("0 {sent} to {asked}")
         }
         (&Call::Measure { times }, Returned::Measurement(measurement)) => {
             let judgement = measurement.judgement;
@@ -209,12 +222,14 @@ const OUTCOMES: [&str; 18] = [
 
 /// Every refusal of every call, every judgement with every chunk outcome, half an era in each
 /// of the four differences, every outcome of a datagram with a MAC, every verdict, 6 for
-/// every clause of a head's rule, and what [`missed`] tells of missed polls.
+/// every clause of a head's rule, and what [`missed`] tells of missed polls; most of it in
+/// edition 1 too, and what [`editions`] tells.
 fn required() -> Vec<String> {
     let mut required: Vec<String> = OUTCOMES.map(String::from).to_vec();
     for (call, numbers) in REFUSALS {
         required.extend(numbers.iter().map(|number| format!("{call} {number}")));
     }
+    required.extend(editions::outcomes());
     for mode in ["basic", "interleaved"] {
         for judgement in 0..=5 {
             let chunk = |chunk| format!("receive 0 {mode} judgement {judgement} chunk {chunk}");
@@ -232,6 +247,7 @@ fn required() -> Vec<String> {
     for c in CHUNK_SIZES {
         required.push(format!("also: second turn of the filter with c = {c}"));
     }
-    required.extend(missed::required().iter().map(|what| format!("also: {what}")));
+    let followed = missed::required().into_iter().chain(editions::required());
+    required.extend(followed.map(|what| format!("also: {what}")));
     required
 }

@@ -2,8 +2,10 @@
 //! are, which server cookie a poll sends, and what must be met of them.
 
 use crate::call::{Call, Outcome, Returned};
+use crate::editions::words;
 use crate::met::{mode, name};
 use crate::reorder::names;
+use reference::edition::Edition;
 use reference::table::PLACES;
 use std::collections::BTreeSet;
 
@@ -11,8 +13,10 @@ use std::collections::BTreeSet;
 const MANY: u64 = 10;
 
 /// The calls on an open association since its last accepted response, or since it was opened.
-#[derive(Clone, Debug, Default)]
+#[derive(Clone, Debug)]
 struct Run {
+    /// The edition in which it was opened.
+    edition: Edition,
     /// Whether a request is outstanding.
     outstanding: bool,
     /// All the requests that were replaced.
@@ -48,24 +52,40 @@ impl Runs {
         let refusal = outcome.returned.refusal();
         let own = (0..PLACES).filter(|a| names(call) >> a & 1 == 1);
         let mut met = Vec::new();
-        if own.clone().any(|a| self.missed(a) > 0) {
-            met.push(with_missed(name(call), refusal));
-        }
-        for association in own {
-            let place = &mut self.0[association];
-            match (call, place.as_mut()) {
-                (Call::Clear | Call::Close { .. }, _) if refusal == 0 => *place = None,
-                (Call::Open { .. }, _) if refusal == 0 => *place = Some(Run::default()),
-                (Call::Poll { interleaved, .. }, Some(run)) => {
-                    met.extend(run.polled(*interleaved, outcome));
-                }
-                (Call::Receive { datagram, .. }, Some(run)) => {
-                    met.extend(run.received(datagram, outcome.returned));
-                }
-                _ => {}
+        for edition in [Edition::One, Edition::Seven] {
+            let counting = |a| self.missed(a) > 0 && self.edition(a) == Some(edition);
+            if own.clone().any(counting) {
+                met.push(with_missed(name(call), refusal) + words(edition));
             }
         }
+        own.for_each(|association| met.extend(self.follow_one(association, call, outcome)));
         met
+    }
+
+    fn edition(&self, association: usize) -> Option<Edition> {
+        self.0[association].as_ref().map(|run| run.edition)
+    }
+
+    /// Follows a call that names this association, and maybe others.
+    fn follow_one(&mut self, association: usize, call: &Call, outcome: &Outcome) -> Vec<String> {
+        let place = &mut self.0[association];
+        let met = match (call, place.as_mut()) {
+            (Call::Poll { interleaved, .. }, Some(run)) => run.polled(*interleaved, outcome),
+            (Call::Receive { datagram, .. }, Some(run)) => {
+                run.received(datagram, outcome.returned).into_iter().collect()
+            }
+            (Call::Clear | Call::Close { .. }, _) if outcome.returned.refusal() == 0 => {
+                *place = None;
+                Vec::new()
+            }
+            (&Call::Open { edition, .. }, _) if outcome.returned.refusal() == 0 => {
+                *place = Edition::of(edition).ok().map(Run::new);
+                Vec::new()
+            }
+            _ => Vec::new(),
+        };
+        let words = self.edition(association).map_or("", words);
+        met.into_iter().map(|what| what + words).collect()
     }
 }
 
@@ -75,6 +95,18 @@ pub fn server_cookie(datagram: &[u8]) -> u64 {
 }
 
 impl Run {
+    fn new(edition: Edition) -> Self {
+        Run {
+            edition,
+            outstanding: false,
+            replaced: 0,
+            known: 0,
+            withheld: false,
+            after_withheld: false,
+            refused: BTreeSet::new(),
+        }
+    }
+
     fn refuse(&mut self, call: &'static str, refusal: u8) {
         if self.replaced > 0 {
             self.refused.insert((call, refusal));
@@ -112,7 +144,7 @@ impl Run {
         }
         let missed = self.replaced > 0;
         let (known, after_withheld) = (server_cookie(datagram), self.withheld);
-        *self = Run { known, after_withheld, ..Run::default() };
+        *self = Run { known, after_withheld, ..Run::new(self.edition) };
         missed.then(|| back_to_0(received.judgement == 0, received.chunk))
     }
 }
@@ -160,14 +192,23 @@ const WITH_MISSED: [(&str, &[u8]); 7] = [
 /// Polls and responses that are refused among many missed polls.
 const AMONG_MANY: [(&str, &[u8]); 2] = [("poll", &[8, 11]), ("receive", &[1, 4, 13, 9, 10])];
 
-/// What [`Runs::follow`] must have given.
-pub fn required() -> Vec<String> {
+/// What must be met in both editions.
+fn required_of_both() -> Vec<String> {
     let mut required = vec![SENT_AGAIN.into(), WITHHELD_10.into()];
     for missed in 0..=MANY {
         required.push(poll_after(missed, true, missed < 4));
         required.push(poll_after(missed, false, false));
     }
-    for chunk in 1..=3 {
+    required.extend([true, false].map(|usable| back_to_0(usable, 2)));
+    required
+}
+
+/// What [`Runs::follow`] must have given.
+pub fn required() -> Vec<String> {
+    let mut required = required_of_both();
+    let one = required.iter().map(|what| format!("{what}{}", words(Edition::One)));
+    required = one.chain(required.iter().cloned()).collect();
+    for chunk in [1, 3] {
         required.extend([true, false].map(|usable| back_to_0(usable, chunk)));
     }
     for (call, refusals) in WITH_MISSED {

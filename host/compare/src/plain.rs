@@ -43,8 +43,10 @@ pub struct Lent {
 /// The calls without table and store.
 fn single(call: &Call, out: &mut [u8]) -> Returned {
     match call {
-        Call::HeaderRead { mode, datagram } => read(Header::read(datagram, *mode)),
-        Call::HeaderWrite { header, .. } => plainly(from_ffi(header).write(out)),
+        Call::HeaderRead { edition, mode, datagram } => {
+            read(Header::read(*edition, datagram, *mode))
+        }
+        Call::HeaderWrite { edition, header, .. } => plainly(from_ffi(header).write(*edition, out)),
         Call::Sound { mode, datagram } => plainly(chain::sound(datagram, *mode)),
         Call::Add { id, .. } => plainly(filter::add(out, id)),
         Call::Union { other, .. } => plainly(filter::union(out, other)),
@@ -77,8 +79,8 @@ impl Side for Plain {
                 table.clear();
                 Returned::Refusal(0)
             }
-            Call::Open { association, timescale, chunk } => {
-                plainly(table.open(association, timescale, chunk))
+            Call::Open { association, edition, timescale, chunk } => {
+                plainly(table.open(association, edition, timescale, chunk))
             }
             Call::Close { association } => plainly(table.close(association)),
             Call::Poll { association, cookie, exponent, interleaved, .. } => {
@@ -99,8 +101,8 @@ impl Side for Plain {
             }
             Call::Report { cookie, time } => plainly(self.store.report(ServerCookie(cookie), time)),
             Call::Answer(ref args) => {
-                let (occasion, server) = arguments(args);
-                written(self.store.answer(&args.request, &occasion, &server, &mut out))
+                let ((occasion, server), request) = (arguments(args), &args.request);
+                written(self.store.answer(args.edition, request, &occasion, &server, &mut out))
             }
             _ => single(call, &mut out),
         };
@@ -124,8 +126,8 @@ impl Side for Lent {
         let (table, store) = (&mut self.table[..], &mut self.store[..]);
         let returned = match *call {
             Call::Clear => plainly(lent::clear(table)),
-            Call::Open { association, timescale, chunk } => {
-                plainly(lent::open(table, association, timescale, chunk))
+            Call::Open { association, edition, timescale, chunk } => {
+                plainly(lent::open(table, association, edition, timescale, chunk))
             }
             Call::Close { association } => plainly(lent::close(table, association)),
             Call::Poll { association, cookie, exponent, interleaved, .. } => {
@@ -145,8 +147,8 @@ impl Side for Lent {
                 plainly(lent::report(store, ServerCookie(cookie), time))
             }
             Call::Answer(ref args) => {
-                let (occasion, server) = arguments(args);
-                written(lent::answer(store, &args.request, &occasion, &server, &mut out))
+                let ((occasion, server), request) = (arguments(args), &args.request);
+                written(lent::answer(store, args.edition, request, &occasion, &server, &mut out))
             }
             _ => single(call, &mut out),
         };

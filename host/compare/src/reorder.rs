@@ -73,6 +73,20 @@ pub struct Reordered {
     pub calls: usize,
     /// Orders that were not the list's own.
     pub orders: usize,
+    /// Those of them that are of lists in which associations of both editions were opened.
+    pub mixed: usize,
+}
+
+/// Whether associations of both editions were opened.
+fn mixed(calls: &[Call], outcomes: &[Outcome]) -> bool {
+    let opened = |number| {
+        let mut made = calls.iter().zip(outcomes);
+        made.any(|(call, outcome)| match call {
+            Call::Open { edition, .. } => *edition == number && outcome.returned.refusal() == 0,
+            _ => false,
+        })
+    };
+    opened(1) && opened(7)
 }
 
 /// Compares one list of calls with some of its reorderings.
@@ -82,11 +96,13 @@ pub fn run(seed: u64) -> Result<Reordered, String> {
     let calls = list(&mut random, length);
     let straight: Vec<usize> = (0..length).collect();
     let (outcomes, table) = made(&calls, &straight);
-    let mut done = Reordered { calls: length, orders: 0 };
+    let mixed = mixed(&calls, &outcomes);
+    let mut done = Reordered { calls: length, orders: 0, mixed: 0 };
     for _ in 0..4 {
         let order = reordering(&mut random, &calls);
         done.calls += length;
         done.orders += usize::from(order != straight);
+        done.mixed += usize::from(order != straight && mixed);
         let (other_outcomes, other_table) = made(&calls, &order);
         if other_outcomes != outcomes || other_table != table {
             let lines: Vec<String> = order.iter().map(|&i| line::line(&calls[i], &[])).collect();

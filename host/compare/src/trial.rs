@@ -1,6 +1,7 @@
 //! Random calls made on the library and on the reference, and compared.
 
 use crate::call::{Call, Outcome, Returned, Side};
+use crate::editions::{self, words, Followed};
 use crate::library::Library;
 use crate::line;
 use crate::make;
@@ -11,6 +12,7 @@ use crate::missed::Runs;
 use crate::plain::{Lent, Plain};
 use crate::random::Random;
 use crate::reorder;
+use reference::edition::Edition;
 use reference::header::{Header, RESPONSE};
 
 /// One list of calls on the sides that are compared.
@@ -86,7 +88,7 @@ fn reached(kind: Kind, random: &mut Random, keep: bool, met: &mut Met) -> Result
         keep,
     };
     let calm = random.one_in(3);
-    let mut runs = Runs::default();
+    let (mut runs, mut followed) = (Runs::default(), Followed::default());
     for _ in 0..length {
         let call = match kind {
             Kind::Client => make::client::call(random, &plain.table, calm),
@@ -97,8 +99,10 @@ fn reached(kind: Kind, random: &mut Random, keep: bool, met: &mut Met) -> Result
         let outcome = trial.compare(&call, &mut plain, met)?;
         let noted = noted(&call, &outcome, &before, records);
         let half_era = half_era(&call, &outcome, &before);
-        let missed = runs.follow(&call, &outcome);
-        noted.into_iter().chain(half_era).chain(missed).for_each(|what| met.also(&what));
+        let mut also: Vec<String> = noted.into_iter().chain(half_era).collect();
+        also.extend(runs.follow(&call, &outcome));
+        also.extend(followed.follow(&call, &outcome, &before));
+        also.iter().for_each(|what| met.also(what));
     }
     Ok(length as u64)
 }
@@ -114,9 +118,10 @@ fn noted(call: &Call, outcome: &Outcome, before: &Plain, records: usize) -> Opti
         }
         (Call::Answer(args), Returned::Written(written)) => {
             let full = before.store.row().len() == records && written.refusal == 0;
-            let asked = full && args.request[7] & 2 != 0;
-            let mode = if outcome.out.get(7)? & 2 != 0 { "interleaved" } else { "basic" };
-            asked.then(|| format!("answer from a full row, {mode}"))
+            let edition = Edition::of(args.edition).ok().filter(|_| full)?;
+            let asked = met::interleaved(edition, &args.request) == met::mode(true);
+            let mode = met::interleaved(edition, &outcome.out);
+            asked.then(|| format!("answer from a full row, {mode}{}", words(edition)))
         }
         _ => None,
     }
@@ -131,15 +136,16 @@ fn half_era(call: &Call, outcome: &Outcome, before: &Plain) -> Option<String> {
     };
     let place = before.table.places.get(usize::from(*association))?;
     let open = place.0.as_ref().filter(|_| received.judgement == 5)?;
-    let header = Header::read(datagram, RESPONSE).ok()?;
-    let times = if header.interleaved() {
+    let header = Header::read(open.edition as u8, datagram, RESPONSE).ok()?;
+    let times = if header.interleaved(open.edition) {
         let saved = open.saved?.times;
         [saved.t1, saved.t2, header.transmit, saved.t4]
     } else {
         [open.outstanding?.t1, header.receive, header.transmit, *t4]
     };
     let alone = met::half_era_alone(times)?;
-    Some(format!("half an era in {alone} alone, {}", met::interleaved(datagram)))
+    let (mode, words) = (met::interleaved(open.edition, datagram), words(open.edition));
+    Some(format!("half an era in {alone} alone, {mode}{words}"))
 }
 
 /// A few calls on any numbers or octets.
@@ -201,8 +207,9 @@ impl Trial {
         if self.keep {
             self.made.push(line::line(call, &self.library.store()));
         }
+        let edition = editions::of_call(call, |association| self.library.state(association));
         let outcome = self.library.make(call);
-        met.count(call, &outcome);
+        met.count(call, &outcome, edition);
         let mut faults: Vec<String> = outcome.stray.iter().cloned().collect();
         let lent = self.lent.as_mut().map(|lent| lent as &mut dyn Side);
         for side in [Some(side), lent].into_iter().flatten() {

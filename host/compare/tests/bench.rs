@@ -36,10 +36,20 @@ fn cases_are_what_their_names_say() {
     let find = |name| all().find(|case| case.name == name).expect("a case");
     let received = find("receive-interleaved-16").run(Side::Library, 1);
     assert_eq!(received.datagram[7] & 2, 2);
+    assert_eq!(find("receive-edition-1").run(Side::Library, 1).datagram.len(), 48);
+    for (name, length) in [("poll-edition-1", 48), ("answer-edition-1", 48), ("poll-16", 100)] {
+        let out = find(name).run(Side::Library, 1).out;
+        assert_eq!(out.iter().rposition(|&octet| octet != 0).map(|last| last < length), Some(true));
+        assert_eq!(out[47] == 0, name.starts_with("poll"), "{name}");
+    }
     for name in ["answer-interleaved-64", "worst-answer", "worst-answer-irregular"] {
         assert_eq!(find(name).run(Side::Library, 1).out[7] & 2, 2, "{name}");
     }
     for case in all() {
+        let (state, one) = ((case.state)(), case.name.ends_with("-edition-1"));
+        let edition = if one { 1 } else { 7 };
+        assert_eq!(state.edition, edition, "{}", case.name);
+        assert!([0, edition.into()].contains(&state.table[0]), "{}", case.name);
         let datagrams: BTreeSet<_> = (1..=3).map(|n| case.run(Side::Library, n).datagram).collect();
         let expected = if case.name.ends_with("-irregular") { 3 } else { 1 };
         assert_eq!(datagrams.len(), expected, "{}", case.name);

@@ -20,14 +20,15 @@ fn library_is_reference() {
 
 #[test]
 fn reorderings_give_the_same() {
-    let mut orders = 0;
+    let (mut orders, mut mixed) = (0, 0);
     for seed in 0..200 {
         match reorder::run(seed) {
-            Ok(done) => orders += done.orders,
+            Ok(done) => (orders, mixed) = (orders + done.orders, mixed + done.mixed),
             Err(difference) => panic!("{difference}"),
         }
     }
     assert!(orders > 700, "only {orders} orders differed from the list's own");
+    assert!(mixed > 400, "only {mixed} of them were of lists with both editions");
 }
 
 #[test]

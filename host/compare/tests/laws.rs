@@ -3,6 +3,7 @@
 #![forbid(unsafe_code)]
 
 use compare::random::Random;
+use ntp5::Edition::Seven;
 use ntp5::{Chunk, ClientCookie, Filter, Header, Mode, ReferenceId, Refusal, Table, RESPONSE};
 
 /// Groups of filters, as many in each as a table has associations.
@@ -100,10 +101,11 @@ fn unions() {
 /// Opens an association and takes the filter from one response to its poll.
 fn follow(table: &mut Table<Vec<u64>>, association: u8, filter: &Filter) -> Result<(), Refusal> {
     let cookie = ClientCookie(9);
-    table.open(association, 0, 512)?;
+    table.open(association, Seven, 0, 512)?;
     table.poll(association, cookie, 6, Mode::Basic, &mut [0; 596])?;
     let mut response = vec![0; 48];
-    Header { mode: RESPONSE, client_cookie: cookie, ..Header::default() }.write(&mut response)?;
+    let header = Header { mode: RESPONSE, client_cookie: cookie, ..Header::default() };
+    header.write(Seven, &mut response)?;
     // A Reference IDs Response field of 516 octets.
     response.extend([0xF5, 0x04, 0x02, 0x04]);
     response.extend(filter.0);

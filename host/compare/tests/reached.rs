@@ -27,8 +27,10 @@ fn in_range(head: &Head) -> bool {
     let &[server, offset, t1, ref kept @ ..] = rest;
     let &[saved_timescale, saved_t1, saved_t2, saved_t3, saved_t4, known, missed] = kept;
     let saved = saved_t4 != 0;
+    let largest = if state == 1 { 15 } else { 255 };
     let open = || {
-        timescale <= 255
+        timescale <= largest
+            && (state == 7 || [next, taken, offset] == [0; 3])
             && [16, 32, 64, 128, 256, 512].contains(&c)
             && next < 512
             && next % c == 0
@@ -42,11 +44,11 @@ fn in_range(head: &Head) -> bool {
             }
             && missed <= 8
             && match saved {
-                true => saved_timescale <= 255,
+                true => saved_timescale <= largest,
                 false => [saved_timescale, saved_t1, saved_t2, saved_t3, known] == [0; 5],
             }
     };
-    *head == [0; HEAD] || state == 1 && open()
+    *head == [0; HEAD] || [1, 7].contains(&state) && open()
 }
 
 /// The heads of a table's records.
@@ -65,12 +67,14 @@ fn cleared() -> [(&'static str, Box<dyn Side>); 3] {
     ]
 }
 
-/// A response to the request with this cookie, from which a head's saved numbers come;
-/// with `c` filter octets unless that is 0.
+/// A response to the request with this cookie, from which a head's saved numbers come, in its
+/// edition; with `c` filter octets unless that is 0.
 fn response(cookie: u64, head: &Head, c: u64) -> Vec<u8> {
-    let &[.., timescale, _, t2, t3, _, server, _] = head;
-    let mut datagram = vec![0x2C, 0, 0, 0, timescale as u8];
-    datagram.resize(16, 0);
+    let &[edition, .., timescale, _, t2, t3, _, server, _] = head;
+    let mut datagram = vec![0; 16];
+    datagram[0] = 0x2C;
+    let (place, octet) = if edition == 1 { (1, timescale << 4) } else { (4, timescale) };
+    datagram[place] = octet as u8;
     datagram.extend([server, cookie, t2, t3].map(u64::to_be_bytes).concat());
     if c > 0 {
         datagram.extend([0xF5, 0x04]);
@@ -89,7 +93,7 @@ fn calls_to(association: u8, head: &Head) -> Vec<Call> {
         return Vec::new();
     }
     let poll = |cookie, interleaved| {
-        let out = vec![0; c as usize + 84];
+        let out = vec![0; if state == 1 { 48 } else { c as usize + 84 }];
         Call::Poll { association, cookie, exponent: 6, interleaved, out }
     };
     let sent = |t1| (t1 != 0).then_some(Call::Sent { association, t1 });
@@ -98,10 +102,12 @@ fn calls_to(association: u8, head: &Head) -> Vec<Call> {
     let rounds = if t4 == 0 { 0 } else { chunks.max(1) };
     // Two cookies in turn, until the last request.
     let others = if last > 2 { [1, 2] } else { [3, 4] };
-    let mut calls = vec![Call::Open { association, timescale: timescale as u8, chunk: c as u16 }];
+    let (edition, timescale, chunk) = (state as u8, timescale as u8, c as u16);
+    let mut calls = vec![Call::Open { association, edition, timescale, chunk }];
     for left in (0..rounds).rev() {
         let cookie = if left + outstanding == 0 { last } else { others[left as usize % 2] };
-        let datagram = response(cookie, head, if chunks > 0 { c } else { 0 });
+        // A chunk that is not known is there as well.
+        let datagram = response(cookie, head, if chunks > 0 || edition == 1 { c } else { 0 });
         calls.push(poll(cookie, false));
         calls.extend(sent(saved_t1));
         calls.push(Call::Receive { association, datagram, t4 });
@@ -115,12 +121,12 @@ fn calls_to(association: u8, head: &Head) -> Vec<Call> {
     calls
 }
 
-/// The kind of a head: what is there, in which turn the filter is, and how many polls were
-/// missed.
-fn kind(head: &Head) -> [u64; 6] {
+/// The kind of a head: its edition, what is there, in which turn the filter is, and how many
+/// polls were missed.
+fn kind(head: &Head) -> [u64; 7] {
     let &[state, _, c, _, taken, _, outstanding, server, .., t4, _, missed] = head;
     let [saved, whole, known] = [t4 != 0, taken == 512, server != 0].map(u64::from);
-    [state * c, outstanding, saved, whole, known, missed]
+    [state, c, outstanding, saved, whole, known, missed]
 }
 
 #[test]
@@ -142,8 +148,10 @@ fn every_head_in_range_is_reached() {
         assert!(wanted.iter().all(in_range), "{wanted:?}");
     }
     // Closed, or for each c: opened, polled with 0 to 8 missed, answered in either turn, and
-    // polled again without a server cookie, or with one and 0 to 3 missed.
-    assert_eq!(kinds.len(), 1 + 6 * (1 + 9 + 2 + 2 * (9 + 4)));
+    // polled again without a server cookie, or with one and 0 to 3 missed. In edition 1 there
+    // is only the first turn.
+    let of_each = |turns: usize| 1 + 9 + turns + turns * (9 + 4);
+    assert_eq!(kinds.len(), 1 + 6 * (of_each(1) + of_each(2)));
 }
 
 /// Makes lists of random calls on every side, and shows each call, what it gave back and the
@@ -203,7 +211,7 @@ fn calls_on(association: u8) -> [Call; 7] {
         Call::Sent { association, t1: 1 },
         Call::Receive { association, datagram, t4: 1 },
         Call::Poll { association, cookie: 1, exponent: 6, interleaved: true, out },
-        Call::Open { association, timescale: 0, chunk: 16 },
+        Call::Open { association, edition: 7, timescale: 0, chunk: 16 },
         Call::Close { association },
     ]
 }

@@ -2,7 +2,7 @@
 #![forbid(unsafe_code)]
 
 use crate::ffi::calls;
-use crate::{ClientCookie, Filter, Measured, ReferenceId, Refusal, Unusable};
+use crate::{ClientCookie, Edition, Filter, Measured, ReferenceId, Refusal, Unusable};
 
 /// What a poll asks for.
 #[derive(Clone, Copy, Debug, PartialEq, Eq, Hash)]
@@ -19,7 +19,7 @@ pub enum Mode {
 pub enum Chunk {
     /// It stands in the association's filter.
     Taken = 1,
-    /// The response had none.
+    /// The response had none, as in edition 1 it never has.
     Absent = 2,
     /// It had another size than was asked.
     AnotherSize = 3,
@@ -38,7 +38,7 @@ pub struct Received {
 #[derive(Clone, Copy, Debug, PartialEq, Eq, Hash)]
 #[repr(u8)]
 pub enum Verdict {
-    /// Its filter was not yet received whole.
+    /// Its filter was not yet received whole, as in edition 1 it never is.
     Incomplete = 1,
     /// All ten positions of the ID are set.
     Loop = 2,
@@ -49,8 +49,9 @@ pub enum Verdict {
 /// A client's table in numbers that `B` owns or borrows. Associations are 0 to 15;
 /// any other is refused with 6, as are numbers that are no table.
 ///
-/// It has 1,296 numbers, 81 for each association: a head of 17, then the filter's 64
-/// words. Word i is the filter's octets 8i to 8i + 7, the first of them the lowest.
+/// It has 1,296 numbers, 81 for each association: a head of 17, of which the first is the
+/// edition or 0 if it is closed, then the filter's 64 words. Word i is the filter's octets 8i
+/// to 8i + 7, the first of them the lowest.
 #[derive(Clone, Debug, PartialEq, Eq)]
 pub struct Table<B>(B);
 
@@ -83,9 +84,17 @@ impl<B: AsRef<[u64]> + AsMut<[u64]>> Table<B> {
         Refusal::check(calls::clear(self.0.as_mut()))
     }
 
-    /// Opens an association (refusals 6, 7). `chunk` is 16, 32, 64, 128, 256 or 512.
-    pub fn open(&mut self, association: u8, timescale: u8, chunk: u16) -> Result<(), Refusal> {
-        Refusal::check(calls::open(self.0.as_mut(), association, timescale, chunk))
+    /// Opens an association (refusals 6, 7). `timescale` is at most 15 in edition 1, and
+    /// `chunk` is 16, 32, 64, 128, 256 or 512 in both.
+    pub fn open(
+        &mut self,
+        association: u8,
+        edition: Edition,
+        timescale: u8,
+        chunk: u16,
+    ) -> Result<(), Refusal> {
+        let table = self.0.as_mut();
+        Refusal::check(calls::open(table, association, edition.number(), timescale, chunk))
     }
 
     /// Closes an association (refusals 6, 7).

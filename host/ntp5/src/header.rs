@@ -2,14 +2,12 @@
 #![forbid(unsafe_code)]
 
 use crate::ffi::{self, calls};
-use crate::Refusal;
+use crate::{Edition, Refusal};
 
 /// Mode of a request.
 pub const REQUEST: u8 = 3;
 /// Mode of a response.
 pub const RESPONSE: u8 = 4;
-/// Flag of an interleaved request or response.
-pub const INTERLEAVED: u16 = 0x2;
 
 /// A cookie chosen by the client for one request.
 #[derive(Clone, Copy, Debug, Default, PartialEq, Eq, Hash)]
@@ -19,7 +17,8 @@ pub struct ClientCookie(pub u64);
 #[derive(Clone, Copy, Debug, Default, PartialEq, Eq, Hash)]
 pub struct ServerCookie(pub u64);
 
-/// The fields of a header. Its version is always 5.
+/// The fields of a header. Its version is always 5. In edition 1 stratum and timescale are at
+/// most 15 and the flags at most 255.
 #[derive(Clone, Copy, Debug, Default, PartialEq, Eq, Hash)]
 pub struct Header {
     /// Leap indicator, 0 to 3.
@@ -36,7 +35,9 @@ pub struct Header {
     pub timescale: u8,
     /// Era.
     pub era: u8,
-    /// Flags; see [`INTERLEAVED`].
+    /// Timescale offset; in edition 7 it is read as 0, and not written.
+    pub timescale_offset: i16,
+    /// Flags; see [`Edition::interleaved`].
     pub flags: u16,
     /// Root delay, 28 fraction bits.
     pub root_delay: u32,
@@ -54,19 +55,19 @@ pub struct Header {
 
 impl Header {
     /// Reads a datagram's header (refusals 1, 2, 3).
-    pub fn read(datagram: &[u8], wanted_mode: u8) -> Result<Header, Refusal> {
-        let read = calls::header_read(datagram, wanted_mode);
+    pub fn read(edition: Edition, datagram: &[u8], wanted_mode: u8) -> Result<Header, Refusal> {
+        let read = calls::header_read(edition.number(), datagram, wanted_mode);
         Refusal::check(read.refusal)?;
         Ok(read.header.into())
     }
 
     /// Writes the header to the start of `out` (refusals 6, 11).
-    pub fn write(self, out: &mut [u8]) -> Result<(), Refusal> {
-        Refusal::check(calls::header_write(self.into(), out))
+    pub fn write(self, edition: Edition, out: &mut [u8]) -> Result<(), Refusal> {
+        Refusal::check(calls::header_write(edition.number(), self.into(), out))
     }
 }
 
-/// Whether a datagram is sound for a mode (refusals 1 to 5, 13).
+/// Whether a datagram is sound for a mode (refusals 1 to 5, 13), the same in both editions.
 pub fn sound(datagram: &[u8], wanted_mode: u8) -> Result<(), Refusal> {
     Refusal::check(calls::sound(datagram, wanted_mode))
 }
@@ -81,6 +82,7 @@ impl From<ffi::Header> for Header {
             precision: header.precision,
             timescale: header.timescale,
             era: header.era,
+            timescale_offset: header.timescale_offset,
             flags: header.flags,
             root_delay: header.root_delay,
             root_dispersion: header.root_dispersion,
@@ -102,6 +104,7 @@ impl From<Header> for ffi::Header {
             precision: header.precision,
             timescale: header.timescale,
             era: header.era,
+            timescale_offset: header.timescale_offset,
             flags: header.flags,
             root_delay: header.root_delay,
             root_dispersion: header.root_dispersion,

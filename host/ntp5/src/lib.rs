@@ -12,6 +12,7 @@
 pub mod ffi;
 
 mod client;
+mod edition;
 mod filter;
 mod header;
 mod measure;
@@ -24,8 +25,9 @@ mod responder;
 struct Readme;
 
 pub use client::{Chunk, Mode, Received, Table, Verdict};
+pub use edition::Edition;
 pub use filter::{Filter, ReferenceId};
-pub use header::{sound, ClientCookie, Header, ServerCookie, INTERLEAVED, REQUEST, RESPONSE};
+pub use header::{sound, ClientCookie, Header, ServerCookie, REQUEST, RESPONSE};
 pub use measure::{Measured, Times, Unusable};
 pub use refusal::Refusal;
 pub use responder::{Occasion, Server, Store};

@@ -1,13 +1,14 @@
 //! The responder and its store of saved transmit times.
 #![forbid(unsafe_code)]
 
-use crate::ffi::calls;
-use crate::{Refusal, ServerCookie};
+use crate::ffi::{self, calls};
+use crate::{Edition, Refusal, ServerCookie};
 
 /// Octets of a record in a store.
 const RECORD: usize = 16;
 
-/// What the server says of itself in every answer.
+/// What the server says of itself in every answer. In edition 1 stratum and timescale are at
+/// most 15 and the flags at most 255.
 #[derive(Clone, Copy, Debug)]
 pub struct Server<'a> {
     /// Leap indicator, 0 to 3.
@@ -22,6 +23,8 @@ pub struct Server<'a> {
     pub timescale: u8,
     /// Era.
     pub era: u8,
+    /// Timescale offset, which only edition 1 sends; `i16::MIN` is unknown.
+    pub timescale_offset: i16,
     /// Flags; the interleaved one is taken out.
     pub flags: u16,
     /// Root delay, 28 fraction bits.
@@ -32,6 +35,23 @@ pub struct Server<'a> {
     pub filter: &'a [u8],
     /// Server information, 4 octets.
     pub information: &'a [u8],
+}
+
+impl From<&Server<'_>> for ffi::Server {
+    fn from(server: &Server) -> Self {
+        ffi::Server {
+            leap: server.leap,
+            stratum: server.stratum,
+            poll: server.poll,
+            precision: server.precision,
+            timescale: server.timescale,
+            era: server.era,
+            timescale_offset: server.timescale_offset,
+            flags: server.flags,
+            root_delay: server.root_delay,
+            root_dispersion: server.root_dispersion,
+        }
+    }
 }
 
 /// What the caller gives for one answer.
@@ -81,12 +101,14 @@ impl<B: AsRef<[u8]> + AsMut<[u8]>> Store<B> {
     /// which is the request's.
     pub fn answer(
         &mut self,
+        edition: Edition,
         request: &[u8],
         occasion: &Occasion,
         server: &Server,
         out: &mut [u8],
     ) -> Result<usize, Refusal> {
-        let written = calls::answer(self.0.as_mut(), request, occasion, server, out);
+        let (store, edition) = (self.0.as_mut(), edition.number());
+        let written = calls::answer(store, edition, request, occasion, server, out);
         Refusal::check(written.refusal)?;
         Ok(written.length.into())
     }

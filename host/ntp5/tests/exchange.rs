@@ -1,6 +1,7 @@
-//! The wrapper's calls, each at least once: a client and a responder together.
+//! The wrapper's calls in edition 7, each at least once: a client and a responder together.
 #![forbid(unsafe_code)]
 
+use ntp5::Edition::Seven;
 use ntp5::*;
 
 const ID: ReferenceId = ReferenceId([7; 15]);
@@ -13,6 +14,7 @@ fn server(filter: &Filter) -> Server<'_> {
         precision: -20,
         timescale: 1,
         era: 0,
+        timescale_offset: 37,
         flags: 0x8001,
         root_delay: 5,
         root_dispersion: 6,
@@ -34,12 +36,12 @@ fn ask(
     table.sent(3, at)?;
     let occasion = Occasion { receive: at + 11, estimate: at + 12, fresh: ServerCookie(at) };
     let request = &request[..length];
-    let length = store.answer(request, &occasion, &server(filter), &mut response)?;
+    let length = store.answer(Seven, request, &occasion, &server(filter), &mut response)?;
     response.truncate(length);
     if mode == Mode::Interleaved {
         store.report(ServerCookie(at), at + 15)?;
     }
-    Ok((Header::read(request, REQUEST)?, response))
+    Ok((Header::read(Seven, request, REQUEST)?, response))
 }
 
 /// Polls, answers and receives once; the response comes 30 after `at`.
@@ -76,7 +78,7 @@ fn client_and_responder() -> Result<(), Refusal> {
     let (mut table, mut store) = (Table::new(), Store::new(2));
     table.clear()?;
     store.clear()?;
-    table.open(3, 1, 256)?;
+    table.open(3, Seven, 1, 256)?;
     assert_eq!(table.loop_verdict(3, &ID), Ok(Verdict::Incomplete));
     let first = exchange(&mut table, &mut store, &filter, Mode::Interleaved, 1000)?;
     assert_eq!(first, basic());
@@ -97,20 +99,20 @@ fn client_and_responder() -> Result<(), Refusal> {
 #[test]
 fn interleaved_again_after_lost_answers() -> Result<(), Refusal> {
     let (mut table, mut store, filter) = (Table::new(), Store::new(2), Filter::FRESH);
-    table.open(3, 1, 256)?;
-    let mode = Mode::Interleaved;
+    table.open(3, Seven, 1, 256)?;
+    let (mode, interleaved_flag) = (Mode::Interleaved, Seven.interleaved());
     assert_eq!(exchange(&mut table, &mut store, &filter, mode, 1000), Ok(basic()));
     assert_eq!(exchange(&mut table, &mut store, &filter, mode, 2000), Ok(interleaved()));
     for at in [3000, 4000, 5000, 6000] {
         let (request, _) = ask(&mut table, &mut store, &filter, mode, at)?;
         let sent = (request.flags, request.server_cookie);
-        assert_eq!(sent, (INTERLEAVED, ServerCookie(2000)), "at {at}");
+        assert_eq!(sent, (interleaved_flag, ServerCookie(2000)), "at {at}");
     }
     let (request, response) = ask(&mut table, &mut store, &filter, mode, 7000)?;
     let sent = (request.flags, request.server_cookie);
-    assert_eq!(sent, (INTERLEAVED, ServerCookie(0)), "interleaved is wanted still");
-    let answer = Header::read(&response, RESPONSE)?;
-    assert_eq!((answer.flags & INTERLEAVED, answer.server_cookie), (0, ServerCookie(7000)));
+    assert_eq!(sent, (interleaved_flag, ServerCookie(0)), "interleaved is wanted still");
+    let answer = Header::read(Seven, &response, RESPONSE)?;
+    assert_eq!((answer.flags & interleaved_flag, answer.server_cookie), (0, ServerCookie(7000)));
     assert_eq!(table.receive(3, &response, 7030), Ok(basic()));
     assert_eq!(exchange(&mut table, &mut store, &filter, mode, 8000), Ok(interleaved()));
     Ok(())
@@ -119,7 +121,8 @@ fn interleaved_again_after_lost_answers() -> Result<(), Refusal> {
 /// A response to the request with this cookie, with these filter octets.
 fn response(cookie: ClientCookie, chunk: &[u8]) -> Result<Vec<u8>, Refusal> {
     let mut datagram = vec![0; 48];
-    Header { mode: RESPONSE, client_cookie: cookie, ..Header::default() }.write(&mut datagram)?;
+    let header = Header { mode: RESPONSE, client_cookie: cookie, ..Header::default() };
+    header.write(Seven, &mut datagram)?;
     datagram.extend([0xF5, 0x04]);
     datagram.extend((4 + chunk.len() as u16).to_be_bytes());
     datagram.extend(chunk);
@@ -131,7 +134,7 @@ fn response(cookie: ClientCookie, chunk: &[u8]) -> Result<Vec<u8>, Refusal> {
 fn filter_words_are_the_octets_taken() -> Result<(), Refusal> {
     const LAST: u8 = 15;
     let (mut table, mut filter) = (Table::new(), [0; 512]);
-    table.open(LAST, 0, 64)?;
+    table.open(LAST, Seven, 0, 64)?;
     // A whole pass of eight chunks, and the first two again.
     for turn in 0..10_usize {
         let cookie = ClientCookie(1 + turn as u64);
@@ -153,7 +156,7 @@ fn made_on(length: usize) -> ([Option<Refusal>; 8], Vec<u64>) {
     let mut table = Table::lent(vec![7; length]);
     let refused = [
         table.clear().err(),
-        table.open(0, 0, 16).err(),
+        table.open(0, Seven, 0, 16).err(),
         table.poll(0, ClientCookie(1), 6, Mode::Basic, &mut [0; 100]).err(),
         table.sent(0, 1).err(),
         table.receive(0, &[0; 47], 1).err(),
@@ -189,10 +192,10 @@ fn unusable_responses() -> Result<(), Refusal> {
         (Header { transmit: 5 + (1 << 63), ..header }, Unusable::HalfEra),
     ] {
         let (mut table, mut out) = (Table::new(), [0; 100]);
-        table.open(0, 0, 16)?;
+        table.open(0, Seven, 0, 16)?;
         table.poll(0, ClientCookie(1), 6, Mode::Basic, &mut out)?;
         table.sent(0, 4)?;
-        Header { client_cookie: ClientCookie(1), ..header }.write(&mut out)?;
+        Header { client_cookie: ClientCookie(1), ..header }.write(Seven, &mut out)?;
         let received = Received { measured: Err(why), chunk: Chunk::Absent };
         assert_eq!(table.receive(0, &out[..48], 7), Ok(received));
     }
@@ -209,7 +212,8 @@ fn headers() {
         precision: -5,
         timescale: 6,
         era: 7,
-        flags: INTERLEAVED | 0x100,
+        timescale_offset: -9,
+        flags: Seven.interleaved() | 0x100,
         root_delay: 8,
         root_dispersion: 9,
         server_cookie: ServerCookie(10),
@@ -218,12 +222,20 @@ fn headers() {
         transmit: 13,
     };
     let mut out = [0; 48];
-    assert_eq!(header.write(&mut out), Ok(()));
-    assert_eq!(Header::read(&out, REQUEST), Ok(header));
-    assert_eq!(Header::read(&out, RESPONSE), Err(Refusal::Mode));
+    assert_eq!(header.write(Seven, &mut out), Ok(()));
+    let without_offset = Header { timescale_offset: 0, ..header };
+    assert_eq!(Header::read(Seven, &out, REQUEST), Ok(without_offset));
+    assert_eq!(Header::read(Seven, &out, RESPONSE), Err(Refusal::Mode));
+    // Flags above 255 have no room in edition 1.
+    let before = out;
+    assert_eq!(header.write(Edition::One, &mut out), Err(Refusal::Argument));
+    assert_eq!(out, before);
+    let header = Header { flags: Edition::One.interleaved() | 0x80, ..header };
+    assert_eq!(header.write(Edition::One, &mut out), Ok(()));
+    assert_eq!(Header::read(Edition::One, &out, REQUEST), Ok(header));
     assert_eq!(sound(&out, REQUEST), Ok(()));
     assert_eq!(sound(&out[..47], REQUEST), Err(Refusal::DatagramLength));
-    assert_eq!(header.write(&mut out[..47]), Err(Refusal::Room));
+    assert_eq!(header.write(Seven, &mut out[..47]), Err(Refusal::Room));
 }
 
 #[test]

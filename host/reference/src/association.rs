@@ -1,5 +1,6 @@
 //! One association, and one place of the table that holds it while it is open.
 
+use crate::edition::Edition;
 use crate::exchange::{judge, poll_octets, write_poll};
 use crate::exchange::{Chunk, Judgement, Mode, Received, Request, Response, Saved};
 use crate::filter::{Filter, ReferenceId, OCTETS};
@@ -68,6 +69,8 @@ pub enum Verdict {
 /// An open association.
 #[derive(Clone, Debug, PartialEq, Eq)]
 pub struct Association {
+    /// The edition in which it sends its requests and reads its responses.
+    pub edition: Edition,
     /// The timescale that its responses must have.
     pub timescale: u8,
     /// The chunk size c, one of [`CHUNK_SIZES`].
@@ -90,12 +93,15 @@ pub struct Association {
 }
 
 impl Association {
-    /// A newly opened association; 6 if the chunk size is not offered.
-    pub fn new(timescale: u8, chunk: u16) -> Result<Self, Refusal> {
-        if !CHUNK_SIZES.contains(&chunk) {
+    /// A newly opened association; 6 if there is no such edition, it has no such timescale, or
+    /// the chunk size is not offered (W204-7).
+    pub fn new(edition: u8, timescale: u8, chunk: u16) -> Result<Self, Refusal> {
+        let edition = Edition::of(edition)?;
+        if timescale > edition.timescale_max() || !CHUNK_SIZES.contains(&chunk) {
             return Err(Refusal::Argument);
         }
         Ok(Association {
+            edition,
             timescale,
             chunk,
             next_offset: 0,
@@ -123,7 +129,7 @@ impl Association {
         if cookie == ClientCookie(0) || self.last_cookie == Some(cookie) {
             return Err(Refusal::Cookie);
         }
-        let length = poll_octets(self.chunk);
+        let length = poll_octets(self.edition, self.chunk);
         let out = out.get_mut(..length).ok_or(Refusal::Room)?;
         // The request that is replaced is counted before the server cookie is chosen (W211-4).
         let missed = (self.missed + u8::from(self.outstanding.is_some())).min(MISSED_MAX);
@@ -134,7 +140,7 @@ impl Association {
             offset: self.next_offset,
             t1: 0,
         };
-        write_poll(out, &request, mode, exponent, self.timescale, self.chunk);
+        write_poll(out, self.edition, &request, mode, exponent, self.timescale, self.chunk);
         self.last_cookie = Some(cookie);
         self.outstanding = Some(request);
         self.missed = missed;
@@ -150,15 +156,16 @@ impl Association {
 
     /// Takes a datagram that came at T4, not 0 (refusals 1 to 5, 13, 9, 10).
     pub fn receive(&mut self, datagram: &[u8], t4: u64) -> Result<Received, Refusal> {
-        let Response { header, chunk } = Response::read(datagram)?;
+        let Response { header, chunk } = Response::read(self.edition, datagram)?;
+        let interleaved = header.interleaved(self.edition);
         let repeats = |request: &Request| request.client_cookie == header.client_cookie;
         let request = self.outstanding.filter(repeats).ok_or(Refusal::NotOutstanding)?;
-        if header.interleaved() && request.server_cookie.0 == 0 {
+        if interleaved && request.server_cookie.0 == 0 {
             return Err(Refusal::NotInterleaved);
         }
         let basic = Times { t1: request.t1, t2: header.receive, t3: header.transmit, t4 };
         // A request with a server cookie was made from a saved response.
-        let previous = self.saved.as_ref().filter(|_| header.interleaved());
+        let previous = self.saved.as_ref().filter(|_| interleaved);
         let times = previous.map_or(basic, |saved| Times { t3: header.transmit, ..saved.times });
         let (judgement, Measured { offset, delay }) =
             match judge(&header, self.timescale, previous, &times) {
@@ -213,8 +220,8 @@ impl Place {
     }
 
     /// Opens the place (refusals 6, 7).
-    pub fn open(&mut self, timescale: u8, chunk: u16) -> Result<(), Refusal> {
-        let opened = Association::new(timescale, chunk)?;
+    pub fn open(&mut self, edition: u8, timescale: u8, chunk: u16) -> Result<(), Refusal> {
+        let opened = Association::new(edition, timescale, chunk)?;
         if self.0.is_some() {
             return Err(Refusal::State);
         }

@@ -1,7 +1,8 @@
 //! One exchange of the client: the request as sent, the response as read, its judgement.
 
 use crate::chain::{self, Fields, FILTER_REQUEST, FILTER_RESPONSE, MAC, NAME};
-use crate::header::{self, ClientCookie, Header, ServerCookie, INTERLEAVED, REQUEST, RESPONSE};
+use crate::edition::Edition;
+use crate::header::{self, ClientCookie, Header, ServerCookie, REQUEST, RESPONSE};
 use crate::measure::{Measured, Times};
 use crate::refusal::Refusal;
 
@@ -81,7 +82,7 @@ pub struct Received {
     pub delay: u64,
 }
 
-/// A sound response: its header and the data of its first filter response.
+/// A sound response: its header and the data of its first filter response, none in edition 1.
 pub(crate) struct Response<'a> {
     pub header: Header,
     pub chunk: Option<&'a [u8]>,
@@ -89,8 +90,8 @@ pub(crate) struct Response<'a> {
 
 impl<'a> Response<'a> {
     /// Reads a datagram (refusals 1 to 5, 13).
-    pub fn read(datagram: &'a [u8]) -> Result<Self, Refusal> {
-        let header = Header::read(datagram, RESPONSE)?;
+    pub fn read(edition: Edition, datagram: &'a [u8]) -> Result<Self, Refusal> {
+        let header = Header::of(edition, header::checked(datagram, RESPONSE)?);
         let mut chunk = None;
         let mut fields = Fields::of(datagram);
         while let Some(field) = fields.next() {
@@ -103,6 +104,7 @@ impl<'a> Response<'a> {
                 chunk = Some(field.data);
             }
         }
+        let chunk = chunk.filter(|_| edition.knows_fields());
         Ok(Response { header, chunk })
     }
 }
@@ -129,8 +131,11 @@ pub(crate) fn judge(
     }
 }
 
-/// Octets of a poll's datagram that asks for chunks of `c` octets.
-pub(crate) fn poll_octets(c: u16) -> usize {
+/// Octets of a poll's datagram that asks for chunks of `c` octets; in edition 1 it has no fields.
+pub(crate) fn poll_octets(edition: Edition, c: u16) -> usize {
+    if !edition.knows_fields() {
+        return header::OCTETS;
+    }
     header::OCTETS
         + (chain::FIELD_HEAD + NAME.len()).next_multiple_of(4)
         + chain::FIELD_HEAD
@@ -140,6 +145,7 @@ pub(crate) fn poll_octets(c: u16) -> usize {
 /// Writes a poll's datagram into `out`, which is exactly as long.
 pub(crate) fn write_poll(
     out: &mut [u8],
+    edition: Edition,
     request: &Request,
     mode: Mode,
     exponent: i8,
@@ -150,13 +156,16 @@ pub(crate) fn write_poll(
         mode: REQUEST,
         poll: exponent,
         timescale,
-        flags: if mode == Mode::Interleaved { INTERLEAVED } else { 0 },
+        flags: if mode == Mode::Interleaved { edition.interleaved() } else { 0 },
         server_cookie: request.server_cookie,
         client_cookie: request.client_cookie,
         ..Header::default()
     };
     let (head, fields) = out.split_at_mut(header::OCTETS);
-    head.copy_from_slice(&header.octets());
+    head.copy_from_slice(&header.octets(edition));
+    if !edition.knows_fields() {
+        return;
+    }
     let rest = chain::put(fields, chain::DRAFT_NAME, NAME);
     let (data, _) = chain::begin(rest, FILTER_REQUEST, c.into());
     let (offset, zeros) = data.split_at_mut(2);

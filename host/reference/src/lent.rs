@@ -52,8 +52,14 @@ pub fn clear(table: &mut [u64]) -> Result<(), Refusal> {
 }
 
 /// See [`Place::open`].
-pub fn open(table: &mut [u64], association: u8, timescale: u8, chunk: u16) -> Result<(), Refusal> {
-    on_place(table, association, |place| place.open(timescale, chunk))
+pub fn open(
+    table: &mut [u64],
+    association: u8,
+    edition: u8,
+    timescale: u8,
+    chunk: u16,
+) -> Result<(), Refusal> {
+    on_place(table, association, |place| place.open(edition, timescale, chunk))
 }
 
 /// See [`Place::close`].
@@ -123,13 +129,14 @@ pub fn report(store: &mut [u8], cookie: ServerCookie, time: u64) -> Result<(), R
 /// See [`Store::answer`].
 pub fn answer(
     store: &mut [u8],
+    edition: u8,
     request: &[u8],
     occasion: &Occasion,
     server: &Server,
     out: &mut [u8],
 ) -> Result<usize, Refusal> {
     let mut row = Store::decode(store)?;
-    let length = row.answer(request, occasion, server, out)?;
+    let length = row.answer(edition, request, occasion, server, out)?;
     row.encode(store);
     Ok(length)
 }

@@ -10,6 +10,7 @@
 
 pub mod association;
 pub mod chain;
+pub mod edition;
 pub mod exchange;
 pub mod filter;
 pub mod header;

@@ -1,10 +1,12 @@
 //! A place as the 81 numbers in which a lent table keeps it.
 //!
-//! A head of seventeen, then the filter's 64 words: word i is octets 8i to 8i + 7, the
-//! first of them the lowest. What is absent is 0, and a closed place's numbers are all 0.
+//! A head of seventeen, of which the first is the edition, then the filter's 64 words: word i
+//! is octets 8i to 8i + 7, the first of them the lowest. What is absent is 0, and a closed
+//! place's numbers are all 0.
 
 use crate::association::{Association, Place, Taken};
 use crate::association::{CHUNK_SIZES, MISSED_MAX, MISSED_NO_COOKIE};
+use crate::edition::Edition;
 use crate::exchange::{Request, Saved};
 use crate::filter::{Filter, OCTETS as FILTER_OCTETS};
 use crate::header::{ClientCookie, ServerCookie};
@@ -34,15 +36,18 @@ pub fn decode(record: &[u64; NUMBERS]) -> Result<Place, Refusal> {
 
 /// The association of an open record, if calls on a cleared table can lead to it.
 fn opened(head: &Head, words: &[u64]) -> Option<Association> {
-    let &[1, timescale, chunk, next, count, last, .., missed] = head else {
-        return None;
-    };
+    let &[state, timescale, chunk, next, count, last, .., missed] = head;
+    let edition = Edition::of(state.try_into().ok()?).ok()?;
     let chunk = CHUNK_SIZES.into_iter().find(|&c| u64::from(c) == chunk)?;
     let next_offset = offset(next, chunk)?;
-    let saved = saved(head)?;
+    let saved = saved(head, edition)?;
     let outstanding = outstanding(head, next_offset)?;
     // Chunks are taken in order from 0 on, each from a response that is saved.
     if (count != next && count != FILTER_OCTETS as u64) || (count != 0 && saved.is_none()) {
+        return None;
+    }
+    // Without fields no chunk is taken (W204-10).
+    if !edition.knows_fields() && (next, count) != (0, 0) {
         return None;
     }
     // A request is outstanding until it is used up, by a response that is saved.
@@ -50,7 +55,8 @@ fn opened(head: &Head, words: &[u64]) -> Option<Association> {
         return None;
     }
     Some(Association {
-        timescale: timescale.try_into().ok()?,
+        edition,
+        timescale: timescale_of(timescale, edition)?,
         chunk,
         next_offset,
         filter: filter_of(words),
@@ -62,6 +68,12 @@ fn opened(head: &Head, words: &[u64]) -> Option<Association> {
     })
 }
 
+/// A timescale that the edition has (W204-11).
+fn timescale_of(number: u64, edition: Edition) -> Option<u8> {
+    let timescale = u8::try_from(number).ok()?;
+    (timescale <= edition.timescale_max()).then_some(timescale)
+}
+
 /// A filter offset: a multiple of c below 512.
 fn offset(number: u64, c: u16) -> Option<u16> {
     let offset = u16::try_from(number).ok()?;
@@ -69,13 +81,13 @@ fn offset(number: u64, c: u16) -> Option<u16> {
 }
 
 /// What the last accepted response left: all 0 if T4 is, which no accepted response has.
-fn saved(head: &Head) -> Option<Option<Saved>> {
+fn saved(head: &Head, edition: Edition) -> Option<Option<Saved>> {
     let &[.., timescale, t1, t2, t3, t4, cookie, _] = head;
     if t4 == 0 {
         return [timescale, t1, t2, t3, cookie].iter().all(|&n| n == 0).then_some(None);
     }
     Some(Some(Saved {
-        timescale: timescale.try_into().ok()?,
+        timescale: timescale_of(timescale, edition)?,
         times: Times { t1, t2, t3, t4 },
         server_cookie: ServerCookie(cookie),
     }))
@@ -129,7 +141,7 @@ fn put_words(words: &mut [u64], filter: &Filter) {
 /// The head of an open association.
 fn head_of(open: &Association) -> Head {
     let mut head = [0; HEAD];
-    head[0] = 1;
+    head[0] = open.edition as u64;
     head[1] = open.timescale.into();
     head[2] = open.chunk.into();
     head[3] = open.next_offset.into();

@@ -1,8 +1,9 @@
 //! The server's answer to a request.
 
 use crate::chain::{self, Field, Fields};
+use crate::edition::Edition;
 use crate::filter;
-use crate::header::{self, Header, ServerCookie, INTERLEAVED, REQUEST, RESPONSE};
+use crate::header::{self, Header, ServerCookie, REQUEST, RESPONSE};
 use crate::refusal::Refusal;
 use crate::store::Store;
 
@@ -21,7 +22,9 @@ pub struct Server<'a> {
     pub timescale: u8,
     /// Era.
     pub era: u8,
-    /// Flags; 0x2 is taken out.
+    /// Timescale offset, which only edition 1 sends.
+    pub timescale_offset: i16,
+    /// Flags; the interleaved one is taken out.
     pub flags: u16,
     /// Root delay.
     pub root_delay: u32,
@@ -45,17 +48,18 @@ pub struct Occasion {
 }
 
 impl Server<'_> {
-    /// 6 if one of the values is out of range.
-    fn check(&self) -> Result<(), Refusal> {
+    /// 6 if one of the values is out of range, some by the edition (W204-15).
+    fn check(&self, edition: Edition) -> Result<(), Refusal> {
         filter::of(self.filter)?;
-        if self.leap > 3 || self.information.len() != 4 {
+        let room = edition.has_room(self.timescale, self.stratum, self.flags);
+        if self.leap > 3 || self.information.len() != 4 || !room {
             return Err(Refusal::Argument);
         }
         Ok(())
     }
 
     /// The header of an answer without cookies and transmit timestamp.
-    fn header(&self, receive: u64) -> Header {
+    fn header(&self, edition: Edition, receive: u64) -> Header {
         Header {
             leap: self.leap,
             mode: RESPONSE,
@@ -64,7 +68,8 @@ impl Server<'_> {
             precision: self.precision,
             timescale: self.timescale,
             era: self.era,
-            flags: self.flags & !INTERLEAVED,
+            timescale_offset: self.timescale_offset,
+            flags: self.flags & !edition.interleaved(),
             root_delay: self.root_delay,
             root_dispersion: self.root_dispersion,
             receive,
@@ -92,10 +97,12 @@ impl Server<'_> {
         }
     }
 
-    /// Writes the answers to the request's fields, and padding over what is left of `out`.
-    fn write_fields(&self, request: &[u8], mut out: &mut [u8]) {
+    /// Writes the answers to the request's fields, none in edition 1 (W204-14), and padding over
+    /// what is left of `out`.
+    fn write_fields(&self, edition: Edition, request: &[u8], mut out: &mut [u8]) {
         let mut met = [false; 3];
-        for field in Fields::of(request).map_while(Result::ok) {
+        let known = if edition.knows_fields() { request } else { &[] };
+        for field in Fields::of(known).map_while(Result::ok) {
             let first = match field.kind {
                 chain::FILTER_REQUEST => &mut met[0],
                 chain::SERVER_INFORMATION => &mut met[1],
@@ -117,40 +124,43 @@ impl Server<'_> {
 }
 
 impl Store {
-    /// Writes the answer to a request (refusals 6, 1 to 5, 13, 8, 11); gives its length,
-    /// which is the request's.
+    /// Writes the answer to a request in the edition with this number (refusals 6, 1 to 5, 13,
+    /// 8, 11); gives its length, which is the request's.
     pub fn answer(
         &mut self,
+        edition: u8,
         request: &[u8],
         occasion: &Occasion,
         server: &Server,
         out: &mut [u8],
     ) -> Result<usize, Refusal> {
-        server.check()?;
+        let edition = Edition::of(edition)?;
+        server.check(edition)?;
         if occasion.receive == 0 || occasion.estimate == 0 {
             return Err(Refusal::Argument);
         }
-        let asked = Header::read(request, REQUEST)?;
+        let asked = Header::of(edition, header::checked(request, REQUEST)?);
+        let interleaved = asked.interleaved(edition);
         chain::check(request)?;
         let fresh = occasion.fresh;
-        if asked.interleaved() && (fresh == ServerCookie(0) || self.holds(fresh)) {
+        if interleaved && (fresh == ServerCookie(0) || self.holds(fresh)) {
             return Err(Refusal::Cookie);
         }
         let out = out.get_mut(..request.len()).ok_or(Refusal::Room)?;
-        let mut header = server.header(occasion.receive);
+        let mut header = server.header(edition, occasion.receive);
         header.client_cookie = asked.client_cookie;
         header.transmit = occasion.estimate;
-        if asked.interleaved() {
+        if interleaved {
             if let Some(time) = self.draw(asked.server_cookie) {
                 header.transmit = time;
-                header.flags |= INTERLEAVED;
+                header.flags |= edition.interleaved();
             }
             self.join(fresh);
             header.server_cookie = fresh;
         }
         let (head, fields) = out.split_at_mut(header::OCTETS);
-        head.copy_from_slice(&header.octets());
-        server.write_fields(request, fields);
+        head.copy_from_slice(&header.octets(edition));
+        server.write_fields(edition, request, fields);
         Ok(request.len())
     }
 }

@@ -27,8 +27,14 @@ impl Table {
     }
 
     /// See [`Place::open`].
-    pub fn open(&mut self, association: u8, timescale: u8, chunk: u16) -> Result<(), Refusal> {
-        self.place(association)?.open(timescale, chunk)
+    pub fn open(
+        &mut self,
+        association: u8,
+        edition: u8,
+        timescale: u8,
+        chunk: u16,
+    ) -> Result<(), Refusal> {
+        self.place(association)?.open(edition, timescale, chunk)
     }
 
     /// See [`Place::close`].

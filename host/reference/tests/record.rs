@@ -8,13 +8,13 @@ type Head = [u64; HEAD];
 
 const CLOSED: Head = [0; HEAD];
 /// As opened.
-const OPENED: Head = [1, 0, 16, 0, 0, 0, 0, 0, 0, 0, 0, 0, 0, 0, 0, 0, 0];
+const OPENED: Head = [7, 0, 16, 0, 0, 0, 0, 0, 0, 0, 0, 0, 0, 0, 0, 0, 0];
 /// Polled once.
-const POLLED: Head = [1, 255, 512, 0, 0, 7, 1, 0, 0, 0, 0, 0, 0, 0, 0, 0, 0];
+const POLLED: Head = [7, 255, 512, 0, 0, 7, 1, 0, 0, 0, 0, 0, 0, 0, 0, 0, 0];
 /// Two chunks taken, nothing outstanding.
-const SAVED: Head = [1, 0, 16, 32, 32, 7, 0, 0, 0, 0, 255, 0, 0, 0, 4, 9, 0];
+const SAVED: Head = [7, 0, 16, 32, 32, 7, 0, 0, 0, 0, 255, 0, 0, 0, 4, 9, 0];
 /// As [`SAVED`], then polled interleaved and sent.
-const ASKED: Head = [1, 0, 16, 32, 32, 8, 1, 9, 32, 5, 0, 1, 2, 3, 4, 9, 0];
+const ASKED: Head = [7, 0, 16, 32, 32, 8, 1, 9, 32, 5, 0, 1, 2, 3, 4, 9, 0];
 
 /// A head with some of its numbers changed.
 fn with(mut head: Head, changes: &[(usize, u64)]) -> Head {
@@ -94,6 +94,9 @@ fn heads_out_of_range_are_refused() {
         with(OPENED, &[(2, 0)]),
         with(OPENED, &[(2, 48)]),
         with(OPENED, &[(0, 2)]),
+        with(OPENED, &[(0, 6)]),
+        with(OPENED, &[(0, 8)]),
+        with(OPENED, &[(0, 0x107)]),
     ];
     heads.iter().for_each(refused);
 }
@@ -136,4 +139,32 @@ fn w211_missed_polls_have_their_range() {
             look(&with(head, &[(16, missed)]));
         }
     }
+}
+
+/// W204-11: in edition 1 timescales are at most 15, and no octet is asked or taken.
+#[test]
+fn w204_edition_1_has_its_ranges() {
+    let nothing_taken = [(0, 1), (3, 0), (4, 0), (8, 0)];
+    let opened = with(OPENED, &[(0, 1), (1, 15)]);
+    let polled = with(POLLED, &[(0, 1), (1, 15)]);
+    let saved = with(with(SAVED, &nothing_taken), &[(10, 15)]);
+    let asked = with(ASKED, &nothing_taken);
+    for head in [opened, polled, saved, asked] {
+        read_and_written(&head);
+        // In edition 7 the same is in range, and a larger timescale.
+        read_and_written(&with(head, &[(0, 7)]));
+        read_and_written(&with(head, &[(0, 7), (1, 16)]));
+        refused(&with(head, &[(1, 16)]));
+    }
+    for head in [saved, asked] {
+        refused(&with(head, &[(10, 16)]));
+        refused(&with(head, &[(4, 512)]));
+        refused(&with(head, &[(3, 32), (4, 512), (8, 32 * head[6])]));
+        refused(&with(head, &[(3, 32), (4, 32), (8, 32 * head[6])]));
+    }
+    refused(&with(asked, &[(8, 32)]));
+    refused(&with(polled, &[(8, 16)]));
+    // What edition 7 leads to with chunks taken is not in range as edition 1's.
+    refused(&with(SAVED, &[(0, 1), (10, 0)]));
+    refused(&with(ASKED, &[(0, 1)]));
 }

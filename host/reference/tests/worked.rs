@@ -1,4 +1,4 @@
-//! The worked cases, M-1 to M-13.
+//! The worked cases, M-1 to M-13. W204-18 stands in `edition.rs`.
 #![forbid(unsafe_code)]
 
 use reference::chain::sound;
@@ -29,14 +29,16 @@ fn with_field(octets: &[u8]) -> Vec<u8> {
 
 #[test]
 fn m1_first_octet() {
-    let first = |leap, mode| {
+    let first = |edition, leap, mode| {
         let mut out = [0; 48];
         let header = Header { leap, mode, ..Header::default() };
-        header.write(&mut out).map(|()| out[0])
+        header.write(edition, &mut out).map(|()| out[0])
     };
-    assert_eq!(first(0, REQUEST), Ok(0x2B));
-    assert_eq!(first(0, RESPONSE), Ok(0x2C));
-    assert_eq!(first(3, RESPONSE), Ok(0xEC));
+    for edition in [1, 7] {
+        assert_eq!(first(edition, 0, REQUEST), Ok(0x2B));
+        assert_eq!(first(edition, 0, RESPONSE), Ok(0x2C));
+        assert_eq!(first(edition, 3, RESPONSE), Ok(0xEC));
+    }
 }
 
 #[test]
@@ -145,6 +147,7 @@ fn m12_filter_requests() {
         precision: -20,
         timescale: 0,
         era: 0,
+        timescale_offset: 0,
         flags: 0,
         root_delay: 0,
         root_dispersion: 0,
@@ -155,7 +158,7 @@ fn m12_filter_requests() {
     let fields = |request: &[u8]| {
         let mut out = vec![0xAA; request.len()];
         let mut store = Store::new(1).expect("one record");
-        let answered = store.answer(request, &occasion, &server, &mut out);
+        let answered = store.answer(7, request, &occasion, &server, &mut out);
         assert_eq!(answered, Ok(request.len()));
         out.split_off(48)
     };
@@ -168,7 +171,7 @@ fn m12_filter_requests() {
 #[test]
 fn whole_first_poll() {
     let mut table = Table::default();
-    assert_eq!(table.open(0, 0, 16), Ok(()));
+    assert_eq!(table.open(0, 7, 0, 16), Ok(()));
     let mut out = [0xAA; 104];
     let cookie = ClientCookie(0x0102_0304_0506_0708);
     assert_eq!(table.poll(0, cookie, 6, Mode::Basic, &mut out), Ok(100));

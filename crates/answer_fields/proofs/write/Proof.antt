@@ -11,8 +11,8 @@ returns : tie.Need-returns
 unfolding fieldsWritten
 returns c = sym (rw (c .if1 .taken))
 
-answers-requires : tie.Need-answers-requires
-answers-requires c κs =
+answers-in-requires : tie.Need-answers-in-requires
+answers-in-requires c κs =
     let at-else = c .before in
     let a = at-else .before .before .before .before .before .args in
     let z = sizes (a .request .now) (a .filter .now) (a .information .now) (a .out .now) (at-else .if1 .left) in
@@ -23,10 +23,10 @@ pad-requires c κs =
     let at-answers = c .before .before .before in
     let at-else = at-answers .before .before in
     let a = at-else .before .before .before .before .before .args in
-    let e = at-answers .answers .ensures in
+    let e = at-answers .answers-in .ensures in
     let z = sizes (a .request .now) (a .filter .now) (a .information .now) (a .out .now) (at-else .if1 .left) in
-    let l = length-answered (a .request .now) (a .filter .now) (a .information .now) (a .out .now) (at-else .if1 .left) (e .0) (e .1) in
-    (omega arith, omega arith, rw l (left-fours (a .request .now) (a .filter .now) (a .information .now) (a .out .now) (at-else .if1 .left) (e .0) (e .1)))
+    let l = length-answered (a .request .now) (a .filter .now) (a .information .now) (a .out .now) (at-else .if1 .left) (a .edition) (e .0) (e .1) in
+    (omega arith, omega arith, rw l (left-fours (a .request .now) (a .filter .now) (a .information .now) (a .out .now) (at-else .if1 .left) (a .edition) (e .0) (e .1)))
 
 same-length : tie.Need-same-length
 same-length c = search needs
@@ -37,8 +37,8 @@ returns-2 c =
     let at-answers = at-pad .before .before .before .before in
     let at-else = at-answers .before .before in
     let a = at-else .before .before .before .before .before .args in
-    let e = at-answers .answers .ensures in
-    filled (a .request .now) (a .filter .now) (a .information .now) (a .out .now) (at-else .if1 .left) (e .0) (e .1) (at-pad .pad .ensures)
+    let e = at-answers .answers-in .ensures in
+    filled (a .request .now) (a .filter .now) (a .information .now) (a .out .now) (at-else .if1 .left) (a .edition) (e .0) (e .1) (at-pad .pad .ensures)
 
 pub write-spec : {M : Type 1} → statement M
-write-spec = tie.close (tie.spec returns answers-requires pad-requires same-length returns-2)
+write-spec = tie.close (tie.spec returns answers-in-requires pad-requires same-length returns-2)

@@ -16,6 +16,9 @@ clear-requires c κs = search needs
 u8-at-requires-2 : tie.Need-u8-at-requires-2
 u8-at-requires-2 c κs = search needs
 
+u8-at-requires-3 : tie.Need-u8-at-requires-3
+u8-at-requires-3 c κs = search needs
+
 u16-at-requires : tie.Need-u16-at-requires
 u16-at-requires c κs = search needs
 
@@ -47,11 +50,11 @@ same-length-2 c = search needs
 returns-2 : tie.Need-returns-2
 returns-2 c =
     let at = c .before .before in
-    let m = at .before .before .before .before in
+    let m = at .before .before .before .before .before in
     let a = m .before .before .before .before .args in
     at .«open» .ensures
     ∙ ap (λ (x : Call). stepNumbers x (a .table .now))
-    (change-open _ _ _ _ _ (m .match .keys2) (m .before .u8-at .ensures) (at .before .before .u8-at2 .ensures) (at .before .u16-at .ensures))
+    (change-open _ _ _ _ _ _ (m .match .keys2) (m .before .u8-at .ensures) (at .before .before .before .u8-at2 .ensures) (at .before .before .u8-at3 .ensures) (at .before .u16-at .ensures))
 
 same-length-3 : tie.Need-same-length-3
 same-length-3 c = search needs
@@ -83,6 +86,7 @@ change-spec =
     u8-at-requires
     clear-requires
     u8-at-requires-2
+    u8-at-requires-3
     u16-at-requires
     open-requires
     close-requires

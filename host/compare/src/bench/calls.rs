@@ -29,9 +29,9 @@ pub(super) const CLEAR: Sides = [
 ];
 
 pub(super) const OPEN: Sides = [
-    made!(|s| calls::open(&mut s.table, 0, 1, 16)),
-    made!(|s| plain::open(&mut s.plain, 1, 16)),
-    made!(|s| lent::open(&mut s.table, 1, 16)),
+    made!(|s| calls::open(&mut s.table, 0, s.edition, 1, 16)),
+    made!(|s| plain::open(&mut s.plain, s.edition, 1, 16)),
+    made!(|s| lent::open(&mut s.table, s.edition, 1, 16)),
 ];
 
 pub(super) const CLOSE: Sides = [
@@ -85,13 +85,13 @@ pub(super) const REPORT: Sides = [
 pub(super) const ANSWER: Sides = [library_answer, plain_answer, lent_answer];
 
 pub(super) const HEADER_READ: Sides = single(
-    made!(|s| calls::header_read(&s.datagram, REQUEST)),
-    made!(|s| plain::header_read(&s.datagram, REQUEST)),
+    made!(|s| calls::header_read(s.edition, &s.datagram, REQUEST)),
+    made!(|s| plain::header_read(s.edition, &s.datagram, REQUEST)),
 );
 
 pub(super) const HEADER_WRITE: Sides = single(
-    made!(|s| calls::header_write(to_ffi(&s.header), &mut s.out)),
-    made!(|s| plain::header_write(&s.header, &mut s.out)),
+    made!(|s| calls::header_write(s.edition, to_ffi(&s.header), &mut s.out)),
+    made!(|s| plain::header_write(s.edition, &s.header, &mut s.out)),
 );
 
 pub(super) const WEIGHT: Sides = single(library_weight, |s| rival_weight(s, plain::weight));
@@ -161,6 +161,7 @@ fn library_answer(s: &mut State) {
         precision: from.precision,
         timescale: from.timescale,
         era: from.era,
+        timescale_offset: from.timescale_offset,
         flags: from.flags,
         root_delay: from.root_delay,
         root_dispersion: from.root_dispersion,
@@ -169,18 +170,21 @@ fn library_answer(s: &mut State) {
     };
     let fresh = ntp5::ServerCookie(s.fresh);
     let occasion = ntp5::Occasion { receive: 2000, estimate: 2010, fresh };
-    let answered = calls::answer(&mut s.store, &s.datagram, &occasion, &server, &mut s.out);
+    let (store, edition) = (&mut s.store, s.edition);
+    let answered = calls::answer(store, edition, &s.datagram, &occasion, &server, &mut s.out);
     s.refusal = black_box(answered).refusal();
 }
 
 fn plain_answer(s: &mut State) {
     let (occasion, server) = (occasion(s.fresh), server(&s.filter));
-    let answered = plain::answer(&mut s.plain_store, &s.datagram, &occasion, &server, &mut s.out);
+    let (store, edition) = (&mut s.plain_store, s.edition);
+    let answered = plain::answer(store, edition, &s.datagram, &occasion, &server, &mut s.out);
     s.refusal = black_box(answered).refusal();
 }
 
 fn lent_answer(s: &mut State) {
     let (occasion, server) = (occasion(s.fresh), server(&s.filter));
-    let answered = lent::answer(&mut s.store, &s.datagram, &occasion, &server, &mut s.out);
+    let (store, edition) = (&mut s.store, s.edition);
+    let answered = lent::answer(store, edition, &s.datagram, &occasion, &server, &mut s.out);
     s.refusal = black_box(answered).refusal();
 }

@@ -2,6 +2,7 @@
 
 use crate::random::Random;
 use reference::chain;
+use reference::edition::Edition;
 use reference::header::{Header, DATAGRAM_MAX, OCTETS};
 
 /// A type that nobody knows.
@@ -9,12 +10,12 @@ pub(super) const UNKNOWN: u16 = 0x1234;
 /// Octets after the header.
 const ROOM: usize = DATAGRAM_MAX - OCTETS;
 
-/// A header, fields of these types and numbers of data octets, all 0, and one of padding
-/// over what is left.
+/// A header of edition 7, fields of these types and numbers of data octets, all 0, and one of
+/// padding over what is left.
 pub(super) fn filled(header: &Header, fields: &[(u16, usize)]) -> Vec<u8> {
     let mut datagram = vec![0; DATAGRAM_MAX];
     let (head, mut rest) = datagram.split_at_mut(OCTETS);
-    head.copy_from_slice(&header.octets());
+    head.copy_from_slice(&header.octets(Edition::Seven));
     for &(kind, n) in fields {
         rest = chain::begin(rest, kind, n).1;
     }

@@ -22,8 +22,8 @@ pub mod plain {
 
     /// See [`Table::open`].
     #[inline(never)]
-    pub fn open(table: &mut Table, timescale: u8, chunk: u16) -> Result<(), Refusal> {
-        table.open(0, timescale, chunk)
+    pub fn open(table: &mut Table, edition: u8, timescale: u8, chunk: u16) -> Result<(), Refusal> {
+        table.open(0, edition, timescale, chunk)
     }
 
     /// See [`Table::close`].
@@ -84,24 +84,25 @@ pub mod plain {
     #[inline(never)]
     pub fn answer(
         store: &mut Store,
+        edition: u8,
         request: &[u8],
         occasion: &Occasion,
         server: &Server,
         out: &mut [u8],
     ) -> Result<usize, Refusal> {
-        store.answer(request, occasion, server, out)
+        store.answer(edition, request, occasion, server, out)
     }
 
     /// See [`Header::read`].
     #[inline(never)]
-    pub fn header_read(datagram: &[u8], mode: u8) -> Result<Header, Refusal> {
-        Header::read(datagram, mode)
+    pub fn header_read(edition: u8, datagram: &[u8], mode: u8) -> Result<Header, Refusal> {
+        Header::read(edition, datagram, mode)
     }
 
     /// See [`Header::write`].
     #[inline(never)]
-    pub fn header_write(header: &Header, out: &mut [u8]) -> Result<(), Refusal> {
-        header.write(out)
+    pub fn header_write(edition: u8, header: &Header, out: &mut [u8]) -> Result<(), Refusal> {
+        header.write(edition, out)
     }
 
     /// See [`filter::weight`].
@@ -158,8 +159,8 @@ pub mod lent {
 
     /// See [`lent::open`].
     #[inline(never)]
-    pub fn open(table: &mut [u64], timescale: u8, chunk: u16) -> Result<(), Refusal> {
-        lent::open(table, 0, timescale, chunk)
+    pub fn open(table: &mut [u64], edition: u8, timescale: u8, chunk: u16) -> Result<(), Refusal> {
+        lent::open(table, 0, edition, timescale, chunk)
     }
 
     /// See [`lent::close`].
@@ -219,11 +220,12 @@ pub mod lent {
     #[inline(never)]
     pub fn answer(
         store: &mut [u8],
+        edition: u8,
         request: &[u8],
         occasion: &Occasion,
         server: &Server,
         out: &mut [u8],
     ) -> Result<usize, Refusal> {
-        lent::answer(store, request, occasion, server, out)
+        lent::answer(store, edition, request, occasion, server, out)
     }
 }

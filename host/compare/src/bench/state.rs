@@ -2,8 +2,9 @@
 
 use super::{Reset, Side};
 use crate::random::Random;
+use reference::edition::Edition;
 use reference::exchange::Mode;
-use reference::header::{ClientCookie, Header, ServerCookie, INTERLEAVED, REQUEST};
+use reference::header::{ClientCookie, Header, ServerCookie, REQUEST};
 use reference::record;
 use reference::responder::{Occasion, Server};
 use reference::store::Store;
@@ -26,6 +27,8 @@ pub struct State {
     pub plain_store_was: Store,
     pub store: Vec<u8>,
     pub store_was: Vec<u8>,
+    /// The number of the edition that a call names.
+    pub edition: u8,
     pub datagram: Vec<u8>,
     /// Datagrams that take their turns with the first, if there are any.
     pub others: Vec<Vec<u8>>,
@@ -62,6 +65,7 @@ impl State {
             plain_store_was: store,
             store: octets.clone(),
             store_was: octets,
+            edition: Edition::Seven as u8,
             datagram,
             others: Vec::new(),
             turn: 0,
@@ -89,6 +93,12 @@ impl State {
         State::new(plain, Store::new(1).expect("one record"), 1, Vec::new())
     }
 
+    /// The state with its calls made in an edition.
+    pub(super) fn named(mut self, edition: Edition) -> Self {
+        self.edition = edition as u8;
+        self
+    }
+
     /// Brings back what a side's call changed, and takes the next datagram.
     #[inline(never)]
     pub fn reset(&mut self, reset: Reset, side: Side) {
@@ -109,22 +119,22 @@ impl State {
     }
 
     /// An open first association with chunks of `c` octets.
-    pub fn opened(c: u16) -> Self {
+    pub fn opened(edition: Edition, c: u16) -> Self {
         let mut plain = Table::default();
-        plain.open(0, 0, c).expect("an offered size");
-        State::with_table(plain)
+        plain.open(0, edition as u8, 0, c).expect("an offered size");
+        State::with_table(plain).named(edition)
     }
 
     /// An outstanding request and its answer, `before` interleaved exchanges after opening.
-    pub fn asked(c: u16, before: u64) -> Self {
+    pub fn asked(edition: Edition, c: u16, before: u64) -> Self {
         let (mut plain, mut store) = (Table::default(), Store::new(8).expect("eight records"));
-        plain.open(0, 0, c).expect("an offered size");
-        let mut response = exchange(&mut plain, &mut store, 1);
+        plain.open(0, edition as u8, 0, c).expect("an offered size");
+        let mut response = exchange(&mut plain, edition, &mut store, 1);
         for at in 0..before {
             plain.receive(0, &response, 1030).expect("an answer");
-            response = exchange(&mut plain, &mut store, 2 + at);
+            response = exchange(&mut plain, edition, &mut store, 2 + at);
         }
-        State::new(plain, store, 8, response)
+        State::new(plain, store, 8, response).named(edition)
     }
 
     /// A weight goes to the output, where the sides are compared.
@@ -162,8 +172,8 @@ impl State {
 /// Sixteen associations with complete filters, each after `then`.
 pub(super) fn complete_table(then: fn(&mut Table)) -> Table {
     let (mut plain, mut store) = (Table::default(), Store::new(8).expect("eight records"));
-    plain.open(0, 0, 512).expect("an offered size");
-    let response = exchange(&mut plain, &mut store, 1);
+    plain.open(0, Edition::Seven as u8, 0, 512).expect("an offered size");
+    let response = exchange(&mut plain, Edition::Seven, &mut store, 1);
     plain.receive(0, &response, 1030).expect("an answer");
     then(&mut plain);
     plain.places = std::array::from_fn(|_| plain.places[0].clone());
@@ -171,14 +181,14 @@ pub(super) fn complete_table(then: fn(&mut Table)) -> Table {
 }
 
 /// Polls, and answers with a filter that is all ones.
-fn exchange(plain: &mut Table, store: &mut Store, cookie: u64) -> Vec<u8> {
+fn exchange(plain: &mut Table, edition: Edition, store: &mut Store, cookie: u64) -> Vec<u8> {
     let (mut request, mut response) = ([0; 600], vec![0; 600]);
     let polled = plain.poll(0, ClientCookie(cookie), 6, Mode::Interleaved, &mut request);
     let length = polled.expect("a request");
     plain.sent(0, 1000).expect("an outstanding request");
     let occasion = Occasion { receive: 1010, estimate: 1020, fresh: ServerCookie(cookie) };
-    let answered =
-        store.answer(&request[..length], &occasion, &server(&[0xFF; 512]), &mut response);
+    let (request, server) = (&request[..length], server(&[0xFF; 512]));
+    let answered = store.answer(edition as u8, request, &occasion, &server, &mut response);
     response.truncate(answered.expect("an answer"));
     store.report(occasion.fresh, 1021).expect("a stored cookie");
     response
@@ -189,23 +199,23 @@ pub(super) fn basic_request() -> Header {
     Header { mode: REQUEST, ..Header::default() }
 }
 
-/// A basic poll's request for 16 octets.
-pub fn poll_request() -> Vec<u8> {
-    let mut state = State::opened(16);
+/// A basic poll's request, in edition 7 for 16 octets.
+pub fn poll_request(edition: Edition) -> Vec<u8> {
+    let mut state = State::opened(edition, 16);
     let cookie = ClientCookie(state.cookie);
     let polled = state.plain.poll(0, cookie, 6, Mode::Basic, &mut state.out);
     state.out.truncate(polled.expect("a request"));
     state.out
 }
 
-/// The request, made to want an interleaved answer from a store's record.
+/// The request of edition 7, made to want an interleaved answer from a store's record.
 pub fn naming(mut request: Vec<u8>, record: u64) -> Vec<u8> {
     let asked = Header {
-        flags: INTERLEAVED,
+        flags: Edition::Seven.interleaved(),
         server_cookie: ServerCookie(FIRST_COOKIE + record),
-        ..Header::read(&request, REQUEST).expect("a request")
+        ..Header::read(Edition::Seven as u8, &request, REQUEST).expect("a request")
     };
-    asked.write(&mut request).expect("room for a header");
+    asked.write(Edition::Seven as u8, &mut request).expect("room for a header");
     request
 }
 
@@ -218,6 +228,7 @@ pub fn server(filter: &[u8]) -> Server<'_> {
         precision: -20,
         timescale: 0,
         era: 0,
+        timescale_offset: 37,
         flags: 0,
         root_delay: 1,
         root_dispersion: 2,

@@ -8,8 +8,9 @@ use super::state::{basic_request, complete_table, State, FIRST_COOKIE};
 use super::{Case, Reset};
 use crate::random::Random;
 use reference::chain;
+use reference::edition::Edition;
 use reference::exchange::Mode;
-use reference::header::{ClientCookie, Header, ServerCookie, INTERLEAVED, RESPONSE};
+use reference::header::{ClientCookie, Header, ServerCookie, RESPONSE};
 use reference::table::Table;
 
 /// Irregular datagrams that take turns. A processor learns a few by heart.
@@ -28,7 +29,7 @@ fn poll_again(plain: &mut Table) {
 /// the most tests. What the numbers are costs nothing, since a call writes all of them.
 fn polled(c: u16) -> Table {
     let mut plain = Table::default();
-    plain.open(0, 0, c).expect("an offered size");
+    plain.open(0, Edition::Seven as u8, 0, c).expect("an offered size");
     poll_again(&mut plain);
     plain
 }
@@ -60,7 +61,8 @@ fn padded_fields() -> State {
 
 /// The header of a request that wants the newest record's time.
 fn naming_newest() -> Header {
-    Header { flags: INTERLEAVED, server_cookie: ServerCookie(NEWEST), ..basic_request() }
+    let flags = Edition::Seven.interleaved();
+    Header { flags, server_cookie: ServerCookie(NEWEST), ..basic_request() }
 }
 
 /// A name that is answered, a filter request and server information that are not good, and 304
@@ -108,12 +110,12 @@ fn all_outstanding() -> State {
 
 /// Any header, filter or closed association: such calls cost the same on all that they accept.
 fn any() -> State {
-    State::with_datagram(basic_request().octets().to_vec())
+    State::with_datagram(basic_request().octets(Edition::Seven).to_vec())
 }
 
 /// All of them.
 #[rustfmt::skip]
-pub const WORST: [Case; 18] = [
+pub const WORST: [Case; 20] = [
     Case { name: "worst-clear", state: any, reset: Reset::Nothing, calls: CLEAR },
     Case { name: "worst-open", state: any, reset: Reset::Record, calls: OPEN },
     Case { name: "worst-close", state: || State::with_table(polled(16)), reset: Reset::Record, calls: CLOSE },
@@ -128,7 +130,9 @@ pub const WORST: [Case; 18] = [
     Case { name: "worst-answer", state: repeated_names, reset: Reset::Store, calls: ANSWER },
     Case { name: "worst-answer-irregular", state: || with_irregular(repeated_names(), &naming_newest()), reset: Reset::Store, calls: ANSWER },
     Case { name: "worst-header-read", state: any, reset: Reset::Nothing, calls: HEADER_READ },
+    Case { name: "worst-header-read-edition-1", state: || any().named(Edition::One), reset: Reset::Nothing, calls: HEADER_READ },
     Case { name: "worst-header-write", state: any, reset: Reset::Nothing, calls: HEADER_WRITE },
+    Case { name: "worst-header-write-edition-1", state: || any().named(Edition::One), reset: Reset::Nothing, calls: HEADER_WRITE },
     Case { name: "worst-sound", state: short_fields, reset: Reset::Nothing, calls: SOUND },
     Case { name: "worst-sound-irregular", state: || with_irregular(any(), &basic_request()), reset: Reset::Nothing, calls: SOUND },
     Case { name: "worst-union", state: any, reset: Reset::Nothing, calls: UNION },

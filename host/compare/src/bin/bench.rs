@@ -69,12 +69,12 @@ fn measure(program: &Path) -> Result<[Vec<Row>; 2], String> {
 }
 
 fn print_table(rows: &[Row]) {
-    println!("{:24}{:^26}{:^15}{:^33}{:>7}", "", "instructions", "over", "nanoseconds", "over");
-    print!("{:24}{:>10}{:>8}{:>8}{:>9}{:>6}", "call", "library", "plain", "lent", "plain", "lent");
+    println!("{:29}{:^26}{:^15}{:^33}{:>7}", "", "instructions", "over", "nanoseconds", "over");
+    print!("{:29}{:>10}{:>8}{:>8}{:>9}{:>6}", "call", "library", "plain", "lent", "plain", "lent");
     println!("{:>10}{:>7}{:>8}{:>8}{:>7}", "library", "cold", "plain", "lent", "lent");
     for row in rows {
         let [library, plain, lent] = row.instructions;
-        print!("{:24}{library:10.0}{plain:8.0}{lent:8.0}", row.case.name);
+        print!("{:29}{library:10.0}{plain:8.0}{lent:8.0}", row.case.name);
         print!("{:9.2}{:6.2}", row.ratio(Side::Plain), row.ratio(Side::Lent));
         let [library, plain, lent] = row.times;
         println!("{library:10.1}{:7.0}{plain:8.1}{lent:8.1}{:7.2}", row.cold, row.time_ratio());

@@ -1,9 +1,10 @@
 //! Calls on a table.
 
-use super::{datagram, half_an_era_from};
+use super::{datagram, edition, half_an_era_from};
 use crate::call::Call;
 use crate::random::Random;
 use reference::association::{Association, CHUNK_SIZES};
+use reference::edition::Edition;
 use reference::table::Table;
 
 /// A call on a table like this one. If `calm`, an open association mostly stays so.
@@ -53,10 +54,23 @@ pub fn id(random: &mut Random) -> Vec<u8> {
 fn opening(random: &mut Random, association: u8) -> Call {
     let chunk = match random.below(20) {
         0 => random.pick(&[0, 1, 8, 15, 17, 48, 511, 1024, u16::MAX]),
-        1..9 => random.pick(&CHUNK_SIZES),
+        1..13 => random.pick(&CHUNK_SIZES),
         _ => random.pick(&[256, 512, 512]),
     };
-    Call::Open { association, timescale: random.below(4) as u8, chunk }
+    let any = random.any() as u8;
+    let timescale = match random.below(12) {
+        0 => random.pick(&[4, 7, 14, 15, 16, 17, 255, any]),
+        _ => random.below(6) as u8,
+    };
+    Call::Open { association, edition: edition(random), timescale, chunk }
+}
+
+/// The octets of a poll of this association.
+pub(crate) fn poll_octets(open: &Association) -> usize {
+    match open.edition {
+        Edition::One => 48,
+        Edition::Seven => usize::from(open.chunk) + 84,
+    }
 }
 
 /// One of the three calls of an exchange, whatever the state.
@@ -75,9 +89,10 @@ fn polling(random: &mut Random, association: u8, open: Option<&Association>) -> 
         1 => last,
         _ => random.number(),
     };
-    let length = open.map_or(100, |open| usize::from(open.chunk) + 84);
+    let length = open.map_or(100, poll_octets);
     let room = random.pick(&[length, length, length + 1, length + 40, 1280]);
-    let room = if random.one_in(16) { random.below(length) } else { room };
+    let less = random.below(length);
+    let room = if random.one_in(16) { random.pick(&[less, length - 1]) } else { room };
     Call::Poll {
         association,
         cookie,
@@ -122,14 +137,22 @@ fn receiving(random: &mut Random, association: u8, open: Option<&Association>) -
     Call::Receive { association, datagram: datagram::response(random, open, t4), t4 }
 }
 
-/// Publishing, mostly of complete filters only.
+/// Publishing, mostly of complete filters only; once in a while also of one that never is.
 fn publishing(random: &mut Random, table: &Table) -> Call {
     let complete = |i: &usize| {
         let open = table.places[*i].0.as_ref();
         open.is_some_and(|open| open.taken.complete())
     };
     let bits = (0..16).filter(complete).fold(0_u16, |bits, i| bits | 1 << i);
+    let without_fields = |i: &usize| {
+        let open = table.places[*i].0.as_ref();
+        open.is_some_and(|open| open.edition == Edition::One)
+    };
     let selected = match random.below(8) {
+        0 if random.one_in(2) => {
+            let one = (0..16).find(without_fields).map_or(0, |i| 1 << i);
+            one | if random.one_in(2) { bits } else { 0 }
+        }
         0 => random.any() as u16,
         1 => 0,
         2 => 1 << random.below(16),

@@ -1,10 +1,11 @@
 //! Datagrams: requests and responses, long and short, sound and damaged.
 
-use super::half_an_era_from;
+use super::{half_an_era_from, timescale_offset};
 use crate::random::Random;
 use reference::association::{Association, CHUNK_SIZES};
 use reference::chain;
-use reference::header::{self, ClientCookie, Header, ServerCookie, INTERLEAVED};
+use reference::edition::Edition;
+use reference::header::{self, ClientCookie, Header, ServerCookie};
 use reference::store::Record;
 
 /// Types of fields that have a meaning, and one that no draft has; MACs come from [`push_mac`].
@@ -99,9 +100,9 @@ pub fn damage(random: &mut Random, datagram: &mut Vec<u8>) {
     }
 }
 
-/// A header of a mode with any values.
-pub fn header(random: &mut Random, mode: u8) -> Header {
-    Header {
+/// A header of a mode with any values that the edition has.
+fn header(random: &mut Random, edition: Edition, mode: u8) -> Header {
+    let header = Header {
         leap: random.below(4) as u8,
         mode,
         stratum: random.any() as u8,
@@ -109,6 +110,7 @@ pub fn header(random: &mut Random, mode: u8) -> Header {
         precision: random.any() as i8,
         timescale: random.below(4) as u8,
         era: random.any() as u8,
+        timescale_offset: timescale_offset(random),
         flags: random.any() as u16,
         root_delay: random.number() as u32,
         root_dispersion: random.number() as u32,
@@ -116,13 +118,35 @@ pub fn header(random: &mut Random, mode: u8) -> Header {
         client_cookie: ClientCookie(random.number()),
         receive: random.time(),
         transmit: random.time(),
+    };
+    fitted(header, edition)
+}
+
+/// The header, as far as the edition has room for it.
+fn fitted(header: Header, edition: Edition) -> Header {
+    match edition {
+        Edition::Seven => header,
+        Edition::One => Header {
+            stratum: header.stratum & 15,
+            timescale: header.timescale & 15,
+            flags: header.flags & 255,
+            ..header
+        },
+    }
+}
+
+/// The octet and the bit of a header that say interleaved.
+pub fn interleaved_place(edition: Edition) -> (usize, u8) {
+    match edition {
+        Edition::One => (4, 0x4),
+        Edition::Seven => (7, 0x2),
     }
 }
 
 /// Times that this response, or the next one, is measured with: once in a while half an era
 /// from each other.
 fn half_an_era(random: &mut Random, header: &mut Header, open: &Association, t4: u64) {
-    let saved = open.saved.filter(|_| header.interleaved());
+    let saved = open.saved.filter(|_| header.interleaved(open.edition));
     let (t2, t4) = saved.map_or((header.receive, t4), |saved| (saved.times.t2, saved.times.t4));
     match random.below(16) {
         0 => header.receive = half_an_era_from(open.outstanding.map_or(0, |request| request.t1)),
@@ -132,13 +156,16 @@ fn half_an_era(random: &mut Random, header: &mut Header, open: &Association, t4:
     }
 }
 
-/// A response that comes at T4, mostly one to the association's outstanding request.
+/// A response that comes at T4, mostly one to the association's outstanding request; once in a
+/// while it is one of the other edition.
 pub fn response(random: &mut Random, open: Option<&Association>, t4: u64) -> Vec<u8> {
-    let mut header = header(random, header::RESPONSE);
+    let any = random.pick(&[Edition::One, Edition::Seven]);
+    let own = open.filter(|_| !random.one_in(12)).map_or(any, |open| open.edition);
+    let mut header = header(random, own, header::RESPONSE);
     header.leap = if random.one_in(12) { 3 } else { random.below(3) as u8 };
     header.stratum = random.pick(&[1, 1, 2, 3, 8, 14, 15, 15, 15, 15, 0, 16, 255]);
     let mut c = random.pick(&CHUNK_SIZES);
-    header.flags &= !INTERLEAVED;
+    header.flags &= !own.interleaved();
     if let Some(open) = open {
         c = open.chunk;
         if !random.one_in(12) {
@@ -148,14 +175,14 @@ pub fn response(random: &mut Random, open: Option<&Association>, t4: u64) -> Vec
         header.client_cookie = open.outstanding.map_or(stale, |request| request.client_cookie);
         let known = open.outstanding.is_some_and(|request| request.server_cookie.0 != 0);
         if random.below(12) < if known { 9 } else { 1 } {
-            header.flags |= INTERLEAVED;
+            header.flags |= own.interleaved();
         }
         half_an_era(random, &mut header, open, t4);
     }
     if random.one_in(20) {
         header.client_cookie.0 ^= 1 << random.below(64);
     }
-    let mut datagram = header.octets().to_vec();
+    let mut datagram = fitted(header, own).octets(own).to_vec();
     push_any(random, &mut datagram);
     push_chunk(random, &mut datagram, c.into());
     push_any(random, &mut datagram);
@@ -172,7 +199,8 @@ pub fn response(random: &mut Random, open: Option<&Association>, t4: u64) -> Vec
 pub fn wrong_response(random: &mut Random, open: &Association, t4: u64) -> Vec<u8> {
     let mut datagram = response(random, Some(open), t4);
     let known = open.outstanding.is_some_and(|request| request.server_cookie.0 != 0);
-    let (place, bit) = if known || random.one_in(2) { (31, 1) } else { (7, INTERLEAVED as u8) };
+    let interleaved = interleaved_place(open.edition);
+    let (place, bit) = if known || random.one_in(2) { (31, 1) } else { interleaved };
     if let Some(octet) = datagram.get_mut(place) {
         *octet ^= bit;
     }
@@ -207,12 +235,12 @@ fn push_filter_request(random: &mut Random, datagram: &mut Vec<u8>) {
 }
 
 /// A request to a responder with this row.
-pub fn request(random: &mut Random, row: &[Record]) -> Vec<u8> {
-    let mut header = header(random, header::REQUEST);
+pub fn request(random: &mut Random, edition: Edition, row: &[Record]) -> Vec<u8> {
+    let mut header = header(random, edition, header::REQUEST);
     if !row.is_empty() && !random.one_in(3) {
         header.server_cookie = random.pick(row).cookie;
     }
-    let mut datagram = header.octets().to_vec();
+    let mut datagram = header.octets(edition).to_vec();
     for _ in 0..random.below(6) {
         match random.below(6) {
             0 | 1 => push_filter_request(random, &mut datagram),

@@ -2,6 +2,7 @@
 
 use crate::random::Random;
 use reference::association::CHUNK_SIZES;
+use reference::edition::Edition;
 use reference::record::HEAD;
 
 /// A head's seventeen numbers, in the order of their places.
@@ -9,8 +10,8 @@ pub type Head = [u64; HEAD];
 
 /// Numbers at which a range begins or ends, or near them.
 #[rustfmt::skip]
-const EDGES: [u64; 22] = [
-    0, 1, 2, 3, 4, 8, 9, 15, 16, 32, 48, 255, 256, 496, 511, 512, 513, 528, 1024,
+const EDGES: [u64; 25] = [
+    0, 1, 2, 3, 4, 6, 7, 8, 9, 15, 16, 17, 32, 48, 255, 256, 496, 511, 512, 513, 528, 1024,
     1 << 32, 1 << 63, u64::MAX,
 ];
 
@@ -20,7 +21,7 @@ const MISSED: [u64; 13] = [0, 0, 1, 2, 3, 3, 4, 4, 5, 6, 7, 8, 8];
 /// What is asked of the numbers, so that calls on a cleared table lead to them.
 #[derive(Clone, Copy, Debug, PartialEq, Eq)]
 pub enum Clause {
-    /// The state is 0 or 1.
+    /// The state is 0 or an edition, 1 or 7.
     State,
     /// A closed record's numbers are all 0.
     Closed,
@@ -56,11 +57,21 @@ pub enum Clause {
     MissedAlone,
     /// Fewer than 4 were missed if the outstanding request sent a server cookie.
     MissedCookie,
+    /// In edition 1 the timescale is at most 15.
+    OneTimescale,
+    /// So is the saved one.
+    OneSavedTimescale,
+    /// In edition 1 the next offset is 0.
+    OneNextOffset,
+    /// So are the octets taken.
+    OneTaken,
+    /// So is the outstanding request's offset.
+    OneRequestOffset,
 }
 
 impl Clause {
     /// All clauses.
-    pub const ALL: [Clause; 18] = [
+    pub const ALL: [Clause; 23] = [
         Clause::State,
         Clause::Closed,
         Clause::Timescale,
@@ -79,7 +90,31 @@ impl Clause {
         Clause::Missed,
         Clause::MissedAlone,
         Clause::MissedCookie,
+        Clause::OneTimescale,
+        Clause::OneSavedTimescale,
+        Clause::OneNextOffset,
+        Clause::OneTaken,
+        Clause::OneRequestOffset,
     ];
+
+    /// The edition of a head where this clause is broken: 1 for what that alone asks, 7 for what
+    /// edition 1 asks more of, so that no other clause is broken with it.
+    fn edition(self, random: &mut Random) -> Edition {
+        match self {
+            Clause::OneTimescale
+            | Clause::OneSavedTimescale
+            | Clause::OneNextOffset
+            | Clause::OneTaken
+            | Clause::OneRequestOffset => Edition::One,
+            Clause::Timescale
+            | Clause::SavedTimescale
+            | Clause::NextOffset
+            | Clause::Taken
+            | Clause::TakenUnsaved
+            | Clause::RequestOffset => Edition::Seven,
+            _ => edition(random),
+        }
+    }
 
     /// Whether a request is outstanding and something saved in a head where this clause is broken.
     fn occasion(self, random: &mut Random) -> (bool, bool) {
@@ -93,17 +128,20 @@ impl Clause {
             Clause::RequestAbsent | Clause::MissedAlone => (false, saved),
             Clause::Missed => (true, saved),
             Clause::MissedCookie => (true, true),
+            Clause::OneSavedTimescale | Clause::OneNextOffset | Clause::OneTaken => (asked, true),
+            Clause::OneRequestOffset => (true, saved),
             _ => (asked, saved),
         }
     }
 
     /// Whether a head in range lets the clauses on missed polls and on the request's server
-    /// cookie be broken one without the other.
+    /// cookie be broken one without the other, and has an offset other than 0.
     fn alone(self, head: &Head) -> bool {
         match self {
             Clause::RequestCookie => head[16] < 4,
             Clause::Missed => head[7] == 0,
             Clause::MissedCookie => head[7] != 0,
+            Clause::OneNextOffset | Clause::OneRequestOffset => head[2] < 512,
             _ => true,
         }
     }
@@ -112,7 +150,8 @@ impl Clause {
     fn head(self, random: &mut Random) -> Head {
         loop {
             let (asked, saved) = self.occasion(random);
-            let head = open(random, asked, saved);
+            let edition = self.edition(random);
+            let head = open(random, edition, asked, saved);
             if self.alone(&head) {
                 return head;
             }
@@ -126,20 +165,27 @@ pub fn in_range(random: &mut Random) -> Head {
         return [0; HEAD];
     }
     let (asked, saved) = (random.one_in(2), random.below(3) > 0);
-    open(random, asked, saved)
+    let edition = edition(random);
+    open(random, edition, asked, saved)
+}
+
+fn edition(random: &mut Random) -> Edition {
+    random.pick(&[Edition::One, Edition::Seven, Edition::Seven])
 }
 
 /// An open head in range, with or without a request outstanding and something saved.
-fn open(random: &mut Random, asked: bool, saved: bool) -> Head {
+fn open(random: &mut Random, edition: Edition, asked: bool, saved: bool) -> Head {
     let mut head = [0; HEAD];
     let c = random.pick(&CHUNK_SIZES).into();
-    head[0] = 1;
-    head[1] = timescale(random);
+    head[0] = edition as u64;
+    head[1] = timescale(random, edition);
     head[2] = c;
-    if saved {
+    if saved && edition == Edition::Seven {
         head[3] = c * random.below(512 / c as usize) as u64;
         head[4] = random.pick(&[head[3], 512]);
-        head[10] = timescale(random);
+    }
+    if saved {
+        head[10] = timescale(random, edition);
         head[11..16].fill_with(|| random.time());
         head[14] = random.number().max(1);
     }
@@ -158,9 +204,10 @@ fn open(random: &mut Random, asked: bool, saved: bool) -> Head {
 }
 
 /// Mostly one of a few, so that those of association and response are often equal.
-fn timescale(random: &mut Random) -> u64 {
-    let any = random.any() % 256;
-    random.pick(&[0, 1, 2, 3, 0, 1, 255, any])
+fn timescale(random: &mut Random, edition: Edition) -> u64 {
+    let largest = if edition == Edition::One { 15 } else { 255 };
+    let any = random.any() % (largest + 1);
+    random.pick(&[0, 1, 2, 3, 0, 1, largest, any])
 }
 
 /// Any number, mostly one near an edge.
@@ -182,10 +229,13 @@ fn such(random: &mut Random, wrong: impl Fn(u64) -> bool) -> u64 {
     }
 }
 
-/// A head in range but for one number, which may be any.
+/// A head in range but for one number, which may be any, or the other edition.
 pub fn changed(random: &mut Random) -> Head {
     let mut head = in_range(random);
-    head[random.below(HEAD)] = number(random);
+    match (random.one_in(8), head[0]) {
+        (true, edition @ (1 | 7)) => head[0] = 8 - edition,
+        _ => head[random.below(HEAD)] = number(random),
+    }
     head
 }
 
@@ -199,7 +249,7 @@ pub fn broken(random: &mut Random, clause: Clause) -> Head {
     let (at, number) = wrong(random, clause, &head);
     head[at] = number;
     // What has to be the next offset goes with it.
-    if state == 1 && at == 3 {
+    if state != 0 && at == 3 {
         head[4] = if taken == next { number } else { taken };
         head[8] = if asked == 1 { number } else { 0 };
     }
@@ -211,7 +261,7 @@ fn wrong(random: &mut Random, clause: Clause, head: &Head) -> (usize, u64) {
     let &[_, _, c, next, .., known, _] = head;
     let offered = |n: u64| CHUNK_SIZES.iter().any(|&size| n == size.into());
     match clause {
-        Clause::State => (0, such(random, |n| n > 1)),
+        Clause::State => (0, such(random, |n| ![0, 1, 7].contains(&n))),
         Clause::Closed => (1 + random.below(HEAD - 1), such(random, |n| n != 0)),
         Clause::Timescale => (1, such(random, |n| n > 255)),
         Clause::ChunkSize => (2, such(random, |n| !offered(n))),
@@ -230,5 +280,10 @@ fn wrong(random: &mut Random, clause: Clause, head: &Head) -> (usize, u64) {
         Clause::Missed => (16, such(random, |n| n > 8)),
         Clause::MissedAlone => (16, 1 + random.below(8) as u64),
         Clause::MissedCookie => (16, 4 + random.below(5) as u64),
+        Clause::OneTimescale => (1, such(random, |n| (16..256).contains(&n))),
+        Clause::OneSavedTimescale => (10, such(random, |n| (16..256).contains(&n))),
+        Clause::OneNextOffset => (3, c * (1 + random.below(511 / c as usize) as u64)),
+        Clause::OneTaken => (4, 512),
+        Clause::OneRequestOffset => (8, c * (1 + random.below(511 / c as usize) as u64)),
     }
 }

@@ -1,9 +1,10 @@
 //! Calls on a store.
 
-use super::datagram;
+use super::{datagram, edition, limited, timescale_offset};
 use crate::call::{Answering, Call};
 use crate::random::Random;
 use ntp5::ffi::Header;
+use reference::edition::Edition;
 use reference::store::Record;
 
 /// A call on a store with this row.
@@ -34,7 +35,9 @@ fn fresh(random: &mut Random, row: &[Record]) -> u64 {
 }
 
 fn answering(random: &mut Random, row: &[Record]) -> Answering {
-    let request = datagram::request(random, row);
+    let edition = edition(random);
+    let layout = Edition::of(edition).unwrap_or(Edition::Seven);
+    let request = datagram::request(random, layout, row);
     let header = Header {
         leap: if random.one_in(30) { random.any() as u8 } else { random.below(4) as u8 },
         mode: 0,
@@ -43,6 +46,7 @@ fn answering(random: &mut Random, row: &[Record]) -> Answering {
         precision: random.any() as i8,
         timescale: random.any() as u8,
         era: random.any() as u8,
+        timescale_offset: timescale_offset(random),
         flags: random.any() as u16,
         root_delay: random.number() as u32,
         root_dispersion: random.number() as u32,
@@ -51,11 +55,13 @@ fn answering(random: &mut Random, row: &[Record]) -> Answering {
         receive: random.time(),
         transmit: random.time(),
     };
+    let header = limited(random, edition, header);
     let length = request.len();
     let room = random.pick(&[length, length, length + 1, length + 60, 1300]);
     let room = if random.one_in(12) { random.below(length + 1) } else { room };
     let (filter, information) = (random.size(512), random.size(4));
     Answering {
+        edition,
         request,
         header,
         filter: random.octets(filter),

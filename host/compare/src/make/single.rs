@@ -1,16 +1,17 @@
 //! Calls on single datagrams, filters and timestamps.
 
-use super::{client, datagram, half_an_era_from};
+use super::{client, datagram, edition, half_an_era_from, limited, timescale_offset};
 use crate::call::Call;
 use crate::random::Random;
 use ntp5::ffi::Header;
+use reference::edition::Edition;
 
 /// A call without table and store.
 pub fn call(random: &mut Random) -> Call {
     match random.below(9) {
         0 => {
             let (mode, datagram) = any_datagram(random);
-            Call::HeaderRead { mode, datagram }
+            Call::HeaderRead { edition: edition(random), mode, datagram }
         }
         1 => writing(random),
         2..5 => {
@@ -32,7 +33,10 @@ fn any_datagram(random: &mut Random) -> (u8, Vec<u8>) {
             (3, random.octets(length))
         }
         1..4 => (4, datagram::response(random, None, 0)),
-        _ => (3, datagram::request(random, &[])),
+        _ => {
+            let layout = random.pick(&[Edition::One, Edition::Seven]);
+            (3, datagram::request(random, layout, &[]))
+        }
     };
     if random.one_in(4) && !datagram.is_empty() {
         datagram::damage(random, &mut datagram);
@@ -54,6 +58,7 @@ fn writing(random: &mut Random) -> Call {
         precision: random.any() as i8,
         timescale: random.any() as u8,
         era: random.any() as u8,
+        timescale_offset: timescale_offset(random),
         flags: random.any() as u16,
         root_delay: random.number() as u32,
         root_dispersion: random.number() as u32,
@@ -62,8 +67,10 @@ fn writing(random: &mut Random) -> Call {
         receive: random.number(),
         transmit: random.number(),
     };
+    let edition = edition(random);
+    let header = limited(random, edition, header);
     let room = random.pick(&[0, 47, 48, 48, 48, 49, 100]);
-    Call::HeaderWrite { header, out: random.octets(room) }
+    Call::HeaderWrite { edition, header, out: random.octets(room) }
 }
 
 /// Four timestamps: anywhere, or near each other across the end of an era; as often as

@@ -1,11 +1,12 @@
-//! One safe function for each call, on slices and numbers as the C interface has them.
+//! One safe function for each call, on slices and numbers as the C interface has them: an
+//! edition too is a number, of which only 1 and 7 are not refused.
 //!
 //! They are safe because every pointer is made from a slice: it points to as many
 //! octets or numbers as its length says, aligned as they are, and an exclusive slice
 //! overlaps with no other. The library takes any contents, and keeps no pointer.
 
 use super::*;
-use crate::responder::{Occasion, Server};
+use crate::responder::{self, Occasion};
 
 /// The size of a table in numbers.
 pub fn table_words() -> usize {
@@ -18,9 +19,9 @@ pub fn clear(table: &mut [u64]) -> u8 {
 }
 
 /// Opens an association.
-pub fn open(table: &mut [u64], association: u8, timescale: u8, chunk: u16) -> u8 {
+pub fn open(table: &mut [u64], association: u8, edition: u8, timescale: u8, chunk: u16) -> u8 {
     let (numbers, len) = (table.as_mut_ptr(), table.len());
-    unsafe { ntp5_open(numbers, len, association, timescale, chunk) }
+    unsafe { ntp5_open(numbers, len, association, edition, timescale, chunk) }
 }
 
 /// Closes an association.
@@ -81,29 +82,23 @@ pub fn report(store: &mut [u8], server_cookie: u64, time: u64) -> u8 {
 /// Writes the answer to a request.
 pub fn answer(
     store: &mut [u8],
+    edition: u8,
     request: &[u8],
     occasion: &Occasion,
-    server: &Server,
+    server: &responder::Server,
     out: &mut [u8],
 ) -> Written {
     unsafe {
         ntp5_answer(
             store.as_mut_ptr(),
             store.len(),
+            edition,
             request.as_ptr(),
             request.len(),
             occasion.receive,
             occasion.estimate,
             occasion.fresh.0,
-            server.leap,
-            server.stratum,
-            server.poll,
-            server.precision,
-            server.timescale,
-            server.era,
-            server.flags,
-            server.root_delay,
-            server.root_dispersion,
+            server.into(),
             server.filter.as_ptr(),
             server.filter.len(),
             server.information.as_ptr(),
@@ -115,13 +110,13 @@ pub fn answer(
 }
 
 /// Reads a header.
-pub fn header_read(datagram: &[u8], wanted_mode: u8) -> Read {
-    unsafe { ntp5_header_read(datagram.as_ptr(), datagram.len(), wanted_mode) }
+pub fn header_read(edition: u8, datagram: &[u8], wanted_mode: u8) -> Read {
+    unsafe { ntp5_header_read(edition, datagram.as_ptr(), datagram.len(), wanted_mode) }
 }
 
 /// Writes a header.
-pub fn header_write(header: Header, out: &mut [u8]) -> u8 {
-    unsafe { ntp5_header_write(header, out.as_mut_ptr(), out.len()) }
+pub fn header_write(edition: u8, header: Header, out: &mut [u8]) -> u8 {
+    unsafe { ntp5_header_write(edition, header, out.as_mut_ptr(), out.len()) }
 }
 
 /// Whether a datagram is sound.

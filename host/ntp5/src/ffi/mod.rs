@@ -62,6 +62,23 @@ pub struct Measurement {
     pub delay: u64,
 }
 
+/// `ntp5_server`: what a server says of itself in every answer.
+#[repr(C)]
+#[derive(Clone, Copy, Debug, PartialEq, Eq)]
+#[allow(missing_docs)]
+pub struct Server {
+    pub leap: u8,
+    pub stratum: u8,
+    pub poll: i8,
+    pub precision: i8,
+    pub timescale: u8,
+    pub era: u8,
+    pub timescale_offset: i16,
+    pub flags: u16,
+    pub root_delay: u32,
+    pub root_dispersion: u32,
+}
+
 /// `ntp5_header`: the fields of a header.
 #[repr(C)]
 #[derive(Clone, Copy, Debug, PartialEq, Eq)]
@@ -74,6 +91,7 @@ pub struct Header {
     pub precision: i8,
     pub timescale: u8,
     pub era: u8,
+    pub timescale_offset: i16,
     pub flags: u16,
     pub root_delay: u32,
     pub root_dispersion: u32,
@@ -97,7 +115,8 @@ pub struct Read {
 extern "C" {
     fn ntp5_table_words() -> usize;
     fn ntp5_clear(table: *mut u64, table_len: usize) -> u8;
-    fn ntp5_open(table: *mut u64, table_len: usize, association: u8, timescale: u8, chunk: u16) -> u8;
+    fn ntp5_open(table: *mut u64, table_len: usize, association: u8, edition: u8, timescale: u8,
+        chunk: u16) -> u8;
     fn ntp5_close(table: *mut u64, table_len: usize, association: u8) -> u8;
     fn ntp5_poll(table: *mut u64, table_len: usize, association: u8, client_cookie: u64, poll: i8,
         interleaved: bool, out: *mut u8, out_len: usize) -> Written;
@@ -110,13 +129,12 @@ extern "C" {
         out: *mut u8, out_len: usize) -> Written;
     fn ntp5_store_clear(store: *mut u8, store_len: usize) -> u8;
     fn ntp5_report(store: *mut u8, store_len: usize, server_cookie: u64, time: u64) -> u8;
-    fn ntp5_answer(store: *mut u8, store_len: usize, request: *const u8, request_len: usize,
-        receive_time: u64, estimate: u64, fresh_cookie: u64, leap: u8, stratum: u8, poll: i8,
-        precision: i8, timescale: u8, era: u8, flags: u16, root_delay: u32, root_dispersion: u32,
+    fn ntp5_answer(store: *mut u8, store_len: usize, edition: u8, request: *const u8,
+        request_len: usize, receive_time: u64, estimate: u64, fresh_cookie: u64, server: Server,
         filter: *const u8, filter_len: usize, information: *const u8, information_len: usize,
         out: *mut u8, out_len: usize) -> Written;
-    fn ntp5_header_read(datagram: *const u8, datagram_len: usize, wanted_mode: u8) -> Read;
-    fn ntp5_header_write(header: Header, out: *mut u8, out_len: usize) -> u8;
+    fn ntp5_header_read(edition: u8, datagram: *const u8, datagram_len: usize, wanted_mode: u8) -> Read;
+    fn ntp5_header_write(edition: u8, header: Header, out: *mut u8, out_len: usize) -> u8;
     fn ntp5_sound(datagram: *const u8, datagram_len: usize, wanted_mode: u8) -> u8;
     fn ntp5_filter_add(filter: *mut u8, filter_len: usize, id: *const u8, id_len: usize) -> u8;
     fn ntp5_filter_union(into: *mut u8, into_len: usize, other: *const u8, other_len: usize) -> u8;

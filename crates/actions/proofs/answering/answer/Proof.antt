@@ -45,9 +45,9 @@ returns c =
     let second = third .before .before .before in
     let first = second .before .before .before in
     answered-all _ _ _ _ _ _
-    (octets-at _ _ _ 1 (first .before .before .piece .ensures) (first .octets-of .ensures))
-    (octets-at _ _ _ 14 (second .before .before .piece2 .ensures) (second .octets-of2 .ensures))
-    (octets-at _ _ _ 15 (third .before .before .piece3 .ensures) (third .octets-of3 .ensures))
+    (octets-at _ _ _ 2 (first .before .before .piece .ensures) (first .octets-of .ensures))
+    (octets-at _ _ _ 16 (second .before .before .piece2 .ensures) (second .octets-of2 .ensures))
+    (octets-at _ _ _ 17 (third .before .before .piece3 .ensures) (third .octets-of3 .ensures))
     (at .answer-to .ensures)
 
 pub answer-spec : {M : Type 1} → statement M

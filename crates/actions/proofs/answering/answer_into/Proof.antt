@@ -4,6 +4,9 @@ use borrow.Author.Needs.{needs}
 use Rattle.actions.proofs.answering.answer_into.Statement.{statement}
 use Rattle.actions.proofs.answering.answer_into.Tie as tie
 
+u8-at-requires : tie.Need-u8-at-requires
+u8-at-requires c κs = search needs
+
 u64-at-requires : tie.Need-u64-at-requires
 u64-at-requires c κs = search needs
 
@@ -32,13 +35,15 @@ returns c =
     let at-fresh = at-server .before in
     let at-estimate = at-fresh .before in
     let at-receive = at-estimate .before in
+    let at-edition = at-receive .before in
     at-answer .answer .ensures
-    ∙ rw (at-receive .u64-at .ensures, at-estimate .u64-at2 .ensures, at-fresh .u64-at3 .ensures, at-server .server-of .ensures)
+    ∙ rw (at-edition .u8-at .ensures, at-receive .u64-at .ensures, at-estimate .u64-at2 .ensures, at-fresh .u64-at3 .ensures, at-server .server-of .ensures)
 
 pub answer-into-spec : {M : Type 1} → statement M
 answer-into-spec =
     tie.close
     (tie.spec
+    u8-at-requires
     u64-at-requires
     u64-at-requires-2
     u64-at-requires-3

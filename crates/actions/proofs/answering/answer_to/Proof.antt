@@ -27,7 +27,7 @@ returns : tie.Need-returns
 returns c =
     let at = c .before .before .before .before .before .before .before in
     let written = at .before .before .before in
-    answered _ _ _ (at .answer-into .result) _ _ _ _ _ (octets-at _ _ _ 16 (written .before .before .piece .ensures) (written .octets-of .ensures)) (at .answer-into .ensures)
+    answered _ _ _ (at .answer-into .result) _ _ _ _ _ (octets-at _ _ _ 18 (written .before .before .piece .ensures) (written .octets-of .ensures)) (at .answer-into .ensures)
 
 pub answer-to-spec : {M : Type 1} → statement M
 answer-to-spec =

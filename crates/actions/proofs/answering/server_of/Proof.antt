@@ -1,6 +1,6 @@
 -- `server_of` meets its contract: each value is a word's. Assumes nothing.
 use mathlib.Core.Path.{_∙_}
-use mir.Syntax.{w8}
+use mir.Syntax.{w8, w16}
 use mir.Facts.{toZ-ofZ}
 use borrow.Author.Needs.{needs}
 use Rattle.actions.proofs.answering.server_of.Statement.{statement}
@@ -33,9 +33,13 @@ u32-at-requires c κs = search needs
 u32-at-requires-2 : tie.Need-u32-at-requires-2
 u32-at-requires-2 c κs = search needs
 
+i16-at-requires : tie.Need-i16-at-requires
+i16-at-requires c κs = search needs
+
 returns : tie.Need-returns
 returns c =
-    let at-delay = c .before in
+    let at-dispersion = c .before in
+    let at-delay = at-dispersion .before in
     let at-flags = at-delay .before in
     let at-era = at-flags .before in
     let at-timescale = at-era .before in
@@ -50,9 +54,10 @@ returns c =
       precision = (toZ-ofZ {w = w8} (record { sfits = at-precision .i8-at2 .ok }) ∙ at-precision .i8-at2 .ensures) i;
       timescale = at-timescale .u8-at3 .ensures i;
       era = at-era .u8-at4 .ensures i;
+      «timescale_offset» = (toZ-ofZ {w = w16} (record { sfits = c .i16-at .ok }) ∙ c .i16-at .ensures) i;
       flags = at-flags .u16-at .ensures i;
       «root_delay» = at-delay .u32-at .ensures i;
-      «root_dispersion» = c .u32-at2 .ensures i;
+      «root_dispersion» = at-dispersion .u32-at2 .ensures i;
     }
 
 pub server-of-spec : {M : Type 1} → statement M
@@ -68,4 +73,5 @@ server-of-spec =
     u16-at-requires
     u32-at-requires
     u32-at-requires-2
+    i16-at-requires
     returns)

@@ -11,7 +11,7 @@ reply-to-requires : tie.Need-reply-to-requires
 reply-to-requires c κs = open-ranges (c .args .h) (c .pre .0) (c .pre .1) .saved
 
 used-head-requires : tie.Need-used-head-requires
-used-head-requires c κs = search needs
+used-head-requires c κs = let s = c .before in open-ranges (s .args .h) (s .pre .0) (s .pre .1) .edition
 
 outcome-of-requires : tie.Need-outcome-of-requires
 outcome-of-requires c κs = search needs

@@ -17,7 +17,7 @@ outcome-of-requires : tie.Need-outcome-of-requires
 outcome-of-requires c κs = search needs
 
 returns : tie.Need-returns
-returns c = rw (previous-back (c .before .before .before .before .before .before .args .h .saved) (c .before .before .before .before .before .before .pre), c .before .before .plain-reply .ensures, c .before .judge .ensures, c .outcome-of .ensures, c .before .before .before .times-of .ensures)
+returns c = rw (previous-back (c .before .before .before .before .before .before .args .h) (c .before .before .before .before .before .before .pre), c .before .before .plain-reply .ensures, c .before .judge .ensures, c .outcome-of .ensures, c .before .before .before .times-of .ensures)
 
 pub reply-to-spec : {M : Type 1} → statement M
 reply-to-spec =

@@ -1,8 +1,5 @@
--- `ntp5_answer` meets its contract: the core's, with the answer as numbers; the two signed numbers fit their octets. Assumes nothing.
+-- `ntp5_answer` meets its contract: the core's, with the answer as numbers. Assumes nothing.
 use mathlib.Core.Path.{_∙_}
-use mir.Syntax.{w8}
-use mir.Facts.{toZ-ofZ}
-use Rattle.responder_rules.specs.Answer.{answerOf}
 use Rattle.c_structs.proofs.Converted.{answered-converted}
 use borrow.Author.Needs.{needs}
 use Rattle.ntp5.proofs.responder_calls.ntp5_answer.Statement.{statement}
@@ -23,33 +20,7 @@ same-length-2 c = search needs
 returns : tie.Need-returns
 returns c =
     let at = c .before .before .before .before .before in
-    let start = at .before .before .before .before .before .before .before .before in
-    let a = start .args in
-    let poll = toZ-ofZ {w = w8} {z = a .poll} (start .fits .poll) in
-    let precision = toZ-ofZ {w = w8} {z = a .precision} (start .fits .precision) in
     answered-converted _ _ _ (at .answer .result) (c .of-answered .ensures) ∙ at .answer .ensures
-    ∙ (λ i. answerOf
-    (record {
-      request = a .request .now;
-      receive = a .receive-time;
-      estimate = a .estimate;
-      freshCookie = a .fresh-cookie;
-      server = record {
-        leap = a .leap;
-        stratum = a .stratum;
-        poll = poll i;
-        precision = precision i;
-        timescale = a .timescale;
-        era = a .era;
-        flags = a .flags;
-        «root_delay» = a .root-delay;
-        «root_dispersion» = a .root-dispersion;
-      };
-      filter = a .filter .now;
-      information = a .information .now;
-    })
-    (a .store .now)
-    (a .out .now))
 
 pub ntp5-answer-spec : {M : Type 1} → statement M
 ntp5-answer-spec =

@@ -1,6 +1,6 @@
 -- `ntp5_header_write` meets its contract: the core writes the same header. Assumes nothing.
 use mathlib.Core.Path.{ap, _∙_}
-use Rattle.header.specs.Header.{written}
+use Rattle.header.specs.Header.{writtenNamed}
 use Rattle.header.specs.declared.Header.{Header}
 use borrow.Author.Needs.{needs}
 use Rattle.ntp5.proofs.single_calls.ntp5_header_write.Statement.{statement}
@@ -19,7 +19,7 @@ returns : tie.Need-returns
 returns c =
     let at = c .before .before in
     let a = at .before .before .before .before .args in
-    at .write .ensures ∙ ap (λ (h : Header). written h (a .out .now)) (at .before .before .core-header .ensures)
+    at .write .ensures ∙ ap (λ (h : Header). writtenNamed (a .edition) h (a .out .now)) (at .before .before .core-header .ensures)
 
 pub ntp5-header-write-spec : {M : Type 1} → statement M
 ntp5-header-write-spec =

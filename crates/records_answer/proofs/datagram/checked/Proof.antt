@@ -19,7 +19,7 @@ returns-2 c =
     let first = c .before in
     let a = first .before .before .before .before .before .args in
     c .read .ensures
-    ∙ sound-reading (a .request .now) (a .filter .now) (a .information .now) (a .leap) (a .receive) (a .estimate) _ (first .before .check .ensures) (first .if1 .left)
+    ∙ sound-reading (a .edition) (a .server) (a .request .now) (a .filter .now) (a .information .now) (a .receive) (a .estimate) _ (first .before .check .ensures) (first .if1 .left)
 
 pub checked-spec : {M : Type 1} → statement M
 checked-spec = tie.close (tie.spec check-requires returns read-requires returns-2)

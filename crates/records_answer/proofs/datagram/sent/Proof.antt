@@ -10,7 +10,7 @@ use Rattle.records_answer.proofs.datagram.sent.Tie as tie
 -- what the call is given
 abbrev givenAt : tie.Start → Given
 givenAt c =
-    given (c .args .request .now) (c .args .receive) (c .args .estimate) (c .args .fresh-cookie .0) (c .args .server) (c .args .filter .now) (c .args .information .now)
+    given (c .args .request .now) (c .args .receive) (c .args .estimate) (c .args .fresh-cookie .0) (c .args .server) (c .args .filter .now) (c .args .information .now) (c .args .edition)
 
 -- the step is not refused
 abbrev start : tie.Else1 → tie.Start
@@ -53,8 +53,8 @@ write-requires c κs = search needs
 write-requires-2 : tie.Need-write-requires-2
 write-requires-2 c κs = search needs
 
-cast-t26 : tie.Need-cast-t26
-cast-t26 c =
+cast-t27 : tie.Need-cast-t27
+cast-t27 c =
     let at-header = c .before .before .before .before .before .before .before .before in
     let first = at-header .before .before .before .before in
     let size = request-size _ (ready first .accepted .request) in
@@ -86,6 +86,6 @@ sent-spec =
     part-part-end
     write-requires
     write-requires-2
-    cast-t26
+    cast-t27
     same-length
     returns-3)

@@ -1,12 +1,7 @@
 -- `i8_at` meets its contract. Assumes nothing.
-use mathlib.Core.Path.{ap, _∙_}
-use Prim.Native.Nat.{_%_}
 use mir.Syntax.{w8}
-use mir.Val.{toZ}
-use mir.Facts.{toZ-ofZ}
-use Rattle.words.specs.declared.number.Value.{Value}
-use Rattle.words.specs.Numeral.{wordValue}
 use Rattle.words.specs.Line.{signedAt}
+use Rattle.words.proofs.Lines.{signed-read}
 use borrow.Author.Needs.{needs}
 use Rattle.words.proofs.line.i8_at.Statement.{statement}
 use Rattle.words.proofs.line.i8_at.Tie as tie
@@ -27,9 +22,7 @@ returns : tie.Need-returns
 unfolding signedAt
 returns c =
     let r = c .before .before in
-    toZ-ofZ {w = w8} (record { sfits = c .from-octet .ok })
-    ∙ c .from-octet .ensures
-    ∙ ap (λ (v : Value). toZ w8 (v .value % 256)) (r .read .ensures ∙ ap (wordValue 115) (r .before .piece .ensures))
+    signed-read w8 115 _ _ _ _ _ (record { sfits = c .from-octet .ok }) (c .from-octet .ensures) (r .read .ensures) (r .before .piece .ensures)
 
 pub i8-at-spec : {M : Type 1} → statement M
 i8-at-spec =

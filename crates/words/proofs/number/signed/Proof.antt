@@ -1,6 +1,6 @@
 -- `signed` meets its contract: the first octet tells the sign. Assumes nothing.
 use mathlib.Core.Path.{ap, _∙_}
-use Prim.Native.Nat.{ℕ}
+use Prim.Native.Nat.{ℕ, _+_}
 use native.Mathlib.Omega.{arith}
 use Rattle.words.specs.Numeral.{value, negated, unsignedOf}
 use Rattle.words.proofs.Numerals.{signed-plain, signed-minus, wrapped}
@@ -17,10 +17,14 @@ unsigned-requires c κs = search needs
 returns : tie.Need-returns
 returns c =
     let g = c .before .before in
-    c .unsigned .ensures ∙ signed-plain (g .before .before .args .word .now) _ (g .get8 .ensures) (c .before .if1 .taken)
+    let a = g .before .before .args in
+    c .unsigned .ensures ∙ signed-plain (a .word .now) (a .most) _ (g .get8 .ensures) (c .before .if1 .taken)
 
 rest-requires : tie.Need-rest-requires
 rest-requires c κs = search needs
+
+add-unsigned : tie.Need-add-unsigned
+add-unsigned c = search needs
 
 unsigned-requires-2 : tie.Need-unsigned-requires-2
 unsigned-requires-2 c κs = search needs
@@ -32,10 +36,11 @@ returns-2 : tie.Need-returns-2
 returns-2 c =
     let u = c .before in
     let g = u .before .before .before in
+    let a = g .before .before .args in
     let v = u .unsigned2 .result in
     let e = wrapped (c .wrapping-sub-u64 .result) (v .value) (omega arith) (omega arith) (c .wrapping-sub-u64 .ensures) in
-    ap (λ (n : ℕ). value n (v .problem)) e ∙ ap negated (u .unsigned2 .ensures ∙ ap (unsignedOf 128) (u .before .rest .ensures))
-    ∙ signed-minus (g .before .before .args .word .now) _ (g .get8 .ensures) (u .before .before .if1 .left)
+    ap (λ (n : ℕ). value n (v .problem)) e ∙ ap negated (u .unsigned2 .ensures ∙ ap (unsignedOf (a .most + 1)) (u .before .rest .ensures))
+    ∙ signed-minus (a .word .now) (a .most) _ (g .get8 .ensures) (u .before .before .if1 .left)
 
 pub signed-spec : {M : Type 1} → statement M
 signed-spec =
@@ -45,6 +50,7 @@ signed-spec =
     unsigned-requires
     returns
     rest-requires
+    add-unsigned
     unsigned-requires-2
     wrapping-sub-u64-requires
     returns-2)
