@@ -7,8 +7,8 @@ use mir.Syntax.{w8, w16}
 use mir.Val.{ofZ}
 use mir.Facts.{toZ-ofZ}
 use Rattle.octets.specs.Number.{octets}
-use Rattle.octets.specs.Piece.{Piece, piece, spelled, joined, widthOf}
-use Rattle.octets.proofs.Pieces.{joined-octets}
+use Rattle.octets.specs.Piece.{Piece, piece, spelled, widthOf}
+use Rattle.octets.proofs.Pieces.{pieceNumber, number-octets}
 use Rattle.header.specs.Header.{octet1Of, octet4Of, word6Of, openingOf}
 use Rattle.header.specs.declared.Header.{Header}
 use borrow.Author.Needs.{needs}
@@ -115,7 +115,7 @@ low-spelled h =
     rw (low-octet (h .leap * 64 + 5 * 8 + h .mode), low-octet (octet1Of (h .edition) (h .stratum) (h .timescale)), low-octet (octet4Of (h .edition) (h .timescale) (h .flags)))
 
 returns : tie.Need-returns
-unfolding joined widthOf
+unfolding pieceNumber widthOf
 returns c =
     let at-precision = c .before .before .before in
     let at-poll = at-precision .before .before in
@@ -127,7 +127,7 @@ returns c =
     let precision = at-precision .to-octet2 .ensures ∙ ap (ofZ w8) (toZ-ofZ {w = w8} {z = h .precision} (record { sfits = at-precision .before .struct-told3 .given .1 .1 .1 .1 .1 .0 .1 })) in
     let word6 = at-word6 .word6-of .ensures ∙ ap (word6Of (h .edition) (h .flags)) (toZ-ofZ {w = w16} {z = h .«timescale_offset»} (record { sfits = at-word6 .before .struct-told .given .1 .1 .1 .1 .1 .1 .1 .1 .0 .1 })) in
     subst⁻¹ (λ (n : ℕ). octets 8 n ≡ spelled (openingOf h)) (omega (arith, at-octet1 .octet1-of .ensures, at-octet4 .octet4-of .ensures, word6, poll, precision))
-    (joined-octets (lowOf h) (
+    (number-octets (lowOf h) (
       omega arith,
       (omega arith, (omega (arith, poll, at-poll .to-octet .ok), (omega (arith, precision, at-precision .to-octet2 .ok), (omega arith, (omega (arith, c .struct-known3 .given), (omega (arith, word6, at-word6 .word6-of .ok), tt)))))),
     ) ∙ low-spelled h)
