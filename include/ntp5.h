@@ -21,9 +21,9 @@
  *   - a buffer that a call writes is in no other call at that time (there are no locks).
  * Any contents of a buffer are safe: what is wrong is refused.
  *
- * A refusal is a number from 1 to 13. It changes no buffer, and the other numbers of the answer are 0; that is proved of
- * every call (docs/CLAIMS.md, "Refusals"), as is that the number is one of those that its comment below names. Where
- * several apply, the first in this order is given:
+ * A refusal is a number from 1 to 13. It changes no buffer, and the other numbers of the answer are 0 (ntp5_replay still says
+ * which record it was); that is proved of every call (docs/CLAIMS.md, "Refusals"), as is that the number is one of those that
+ * its comment below names. Where several apply, the first in this order is given:
  *   6, 7, 1, 2, 3, then 4 and 5 field by field, 13, 9, 10, 8, 11, 12.
  * docs/RULES.md has every rule of the calls, numbered.
  *
@@ -55,9 +55,9 @@
  * README lists what changed.
  */
 #define NTP5_VERSION_MAJOR 4
-#define NTP5_VERSION_MINOR 0
+#define NTP5_VERSION_MINOR 1
 #define NTP5_VERSION_PATCH 0
-#define NTP5_VERSION "4.0.0"
+#define NTP5_VERSION "4.1.0"
 
 #ifdef __cplusplus
 extern "C" {
@@ -108,6 +108,25 @@ enum {
     NTP5_VERDICT_CLEAR = 3       /* not all are set, as of the last pass: see ntp5_loop_verdict on its age */
 };
 
+/* What stood at a place of a trace. From 2 on it is what is wrong with the record there. */
+enum {
+    NTP5_TRACE_END = 0,
+    NTP5_TRACE_CALL = 1,       /* a record, and its call was made; the call may have been refused */
+    NTP5_TRACE_BAD_MARK = 2,   /* it does not begin with 0x4E 0x35 */
+    NTP5_TRACE_BAD_KIND = 3,   /* its kind is not 1 to 5, or a poll's mode is not 0 or 1 */
+    NTP5_TRACE_BAD_LENGTH = 4, /* its data length is not that of its kind */
+    NTP5_TRACE_CUT = 5         /* the trace ends within it */
+};
+
+/* Kinds of a trace's records. */
+enum {
+    NTP5_KIND_OPEN = 1,
+    NTP5_KIND_POLL = 2,
+    NTP5_KIND_SENT = 3,
+    NTP5_KIND_RECEIVE = 4,
+    NTP5_KIND_CLOSE = 5
+};
+
 /* Modes, associations and sizes in octets. */
 enum {
     NTP5_REQUEST = 3,
@@ -119,7 +138,8 @@ enum {
     NTP5_DATAGRAM_AT_MOST = 1280,
     NTP5_FILTER_OCTETS = 512,
     NTP5_ID_OCTETS = 15,
-    NTP5_INFORMATION_OCTETS = 4
+    NTP5_INFORMATION_OCTETS = 4,
+    NTP5_TRACE_HEAD = 14        /* a trace's record without its data */
 };
 
 /* How many octets were written to the start of the output. */
@@ -187,6 +207,21 @@ typedef struct {
     uint8_t refusal;
     ntp5_header header;
 } ntp5_read;
+
+/*
+ * What stood at a place of a trace, and what the record's call gave: `refusal` for every kind, `length` of a poll, and
+ * `judgement`, `chunk`, `offset` and `delay` of a receive, each as that call gives it; 0 where the kind has no such number.
+ * Where no call was made, everything but `state` and `next` is 0.
+ */
+typedef struct {
+    uint8_t state; /* 0 the end, 1 a call was made, 2 wrong mark, 3 wrong kind, 4 wrong data length, 5 cut */
+    uint8_t kind, association;
+    size_t next; /* where the next record begins; if no call was made, `at` */
+    uint8_t refusal, judgement, chunk;
+    uint16_t length;
+    int64_t offset;
+    uint64_t delay;
+} ntp5_replayed;
 
 /*
  * THE CLIENT TABLE
@@ -277,6 +312,34 @@ ntp5_verdict ntp5_loop_verdict(const uint64_t *table, size_t table_len, uint8_t 
  * never is, 11.
  */
 ntp5_written ntp5_publish(const uint64_t *table, size_t table_len, uint16_t selected, const uint8_t *id, size_t id_len,
+                          uint8_t *out, size_t out_len);
+
+/*
+ * TRACES
+ *
+ * A trace is any number of records, one after the other with nothing between them: calls on a client table in the order in
+ * which they were made. The caller owns it, and it is only read. A record is 14 octets and its data, in network order:
+ *   mark            2 octets, 0x4E 0x35
+ *   kind            1 octet: 1 open, 2 poll, 3 sent, 4 receive, 5 close
+ *   association     1 octet; one above 15 is a call like another, and is refused with 6
+ *   data length     2 octets: 4 for open, 10 for poll, 0 for sent and close, any for receive
+ *   time            8 octets: T1 for sent, T4 for receive; not looked at in the others
+ *   data            open: edition and timescale, 1 octet each, chunk size, 2
+ *                   poll: client cookie, 8 octets, poll exponent, signed, and mode, 1 octet each; mode 0 is basic, 1 interleaved
+ *                   receive: the datagram
+ */
+
+/*
+ * Makes the call of the record that begins `at` octets into the trace: it does to `table` and `out` what the call itself does,
+ * and gives what that gives, with state 1. `out` is lent to a poll as it is: 1280 octets are room for any; a record of another
+ * kind leaves it as it was. A replay begins on a cleared table with `at` 0, and the answer's `next` is the next call's `at`.
+ * It is over at state 0, the end, which is any `at` from `trace_len` on, and at a wrong record, states 2 to 5: no call is made,
+ * nothing changes, and what follows in the trace has no meaning. Where a record has several faults, the first of these is told:
+ * fewer than 14 octets are left (5), mark (2), kind (3), data length (4), data past the trace's end (5), a poll's mode (3).
+ * Refuses what the record's call refuses, also with 6 at every record for a table of another size. A refused call is a call
+ * that was made: state, kind, association and next are told, the numbers after `refusal` are 0, and the replay goes on.
+ */
+ntp5_replayed ntp5_replay(uint64_t *table, size_t table_len, const uint8_t *trace, size_t trace_len, size_t at,
                           uint8_t *out, size_t out_len);
 
 /*

@@ -144,11 +144,13 @@ def poll_call(*words):
     return f"{refusal}" if refusal else f"0 {length} {text_of(output)}"
 
 
+def received_text(refusal, judgement, chunk, offset, delay):
+    """What is printed of a receive, from what it answers."""
+    return f"{refusal}" if refusal else f"0 judgement={judgement} chunk={chunk} offset={offset} delay={delay}"
+
+
 def receive_call(*words):
-    refusal, judgement, chunk, offset, delay = TABLE.receive(*words)
-    if refusal:
-        return f"{refusal}"
-    return f"0 judgement={judgement} chunk={chunk} offset={offset} delay={delay}"
+    return received_text(*TABLE.receive(*words))
 
 
 def verdict_call(*words):
@@ -204,38 +206,47 @@ CALLS = {
 }
 
 
-def run_line(words):
-    """The result of a call; a Problem carries the place of the word, counted from 1."""
+def read_call(words):
+    """A call's name and the values of its words; a Problem tells the place of the first bad word, counted from 1."""
     if words[0] not in CALLS:
-        raise Problem(1, "unknown call")
-    readers, call = CALLS[words[0]]
+        raise Problem("word 1: unknown call")
+    readers, _ = CALLS[words[0]]
     values = []
     for place, read in enumerate(readers, 2):
         if place > len(words):
-            raise Problem(place, "missing")
+            raise Problem(f"word {place}: missing")
         try:
             values.append(read(words[place - 1]))
         except Problem as problem:
-            raise Problem(place, problem.args[0])
+            raise Problem(f"word {place}: {problem}")
     if len(words) > len(readers) + 1:
-        raise Problem(len(readers) + 2, "left over")
-    return f"{words[0]} {call(*values)}"
+        raise Problem(f"word {len(readers) + 2}: left over")
+    return words[0], values
+
+
+def calls_of(octets):
+    """Each line of a case file that has words: its number, and then its call's name and values, or what is wrong with it."""
+    for number, line in enumerate(octets.decode("latin-1").split("\n"), 1):
+        line = line.split("#")[0]
+        words = re.split(r"[ \t\r]+", line.strip(" \t\r"))
+        try:
+            if len(line) > LONGEST:
+                raise Problem(f"longer than {LONGEST} octets")
+            call = read_call(words) if words != [""] else None
+        except Problem as problem:
+            yield number, None, f"{problem}"
+        else:
+            if call:
+                yield number, call, None
 
 
 def main():
-    lines = sys.stdin.buffer.read().decode("latin-1").split("\n")
-    for place, line in enumerate(lines, 1):
-        line = line.split("#")[0]
-        if len(line) > LONGEST:
-            print(f"line {place}: longer than {LONGEST} octets")
-            continue
-        words = re.split(r"[ \t\r]+", line.strip(" \t\r"))
-        if words == [""]:
-            continue
-        try:
-            print(run_line(words))
-        except Problem as problem:
-            print(f"line {place}: word {problem.args[0]}: {problem.args[1]}")
+    for number, call, problem in calls_of(sys.stdin.buffer.read()):
+        if problem:
+            print(f"line {number}: {problem}")
+        else:
+            name, values = call
+            print(f"{name} {CALLS[name][1](*values)}")
 
 
 if __name__ == "__main__":

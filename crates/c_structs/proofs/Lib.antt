@@ -1,2 +1,3 @@
 -- What the proofs of the exports use. Assumes nothing.
 pub mod Converted
+pub mod Replaying

@@ -3,3 +3,4 @@
 pub mod client_calls;
 pub mod responder_calls;
 pub mod single_calls;
+pub mod trace_calls;

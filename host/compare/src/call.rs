@@ -14,6 +14,7 @@ pub enum Call {
     Receive { association: u8, datagram: Vec<u8>, t4: u64 },
     Verdict { association: u8, id: Vec<u8> },
     Publish { selected: u16, id: Vec<u8>, out: Vec<u8> },
+    Replay { trace: Vec<u8>, at: usize, out: Vec<u8> },
     StoreClear,
     Report { cookie: u64, time: u64 },
     Answer(Box<Answering>),
@@ -51,6 +52,7 @@ pub enum Returned {
     Weight(ffi::Weight),
     Read(ffi::Read),
     Measurement(ffi::Measurement),
+    Replayed(ffi::Replayed),
 }
 
 impl Returned {
@@ -64,6 +66,7 @@ impl Returned {
             Returned::Weight(weight) => weight.refusal,
             Returned::Read(read) => read.refusal,
             Returned::Measurement(_) => 0,
+            Returned::Replayed(replayed) => replayed.refusal,
         }
     }
 }
@@ -132,6 +135,7 @@ impl Call {
                 | Call::Receive { .. }
                 | Call::Verdict { .. }
                 | Call::Publish { .. }
+                | Call::Replay { .. }
         )
     }
 

@@ -7,7 +7,9 @@ use reference::exchange::{Judgement, Mode, Received};
 use reference::header::{ClientCookie, Header, ServerCookie};
 use reference::measure::Measured;
 use reference::refusal::Refusal;
+use reference::replay::{Answer, Replayed};
 use reference::responder::{Occasion, Server};
+use reference::trace::Fault;
 
 /// The mode that a poll wants.
 pub(crate) fn mode(interleaved: bool) -> Mode {
@@ -44,6 +46,34 @@ pub(crate) fn received(result: Result<Received, Refusal>) -> Returned {
         Err(refusal) => {
             ffi::Received { refusal: refusal.number(), judgement: 0, chunk: 0, offset: 0, delay: 0 }
         }
+    })
+}
+
+/// The answer of a replay at a place: that of the record's call, and which record it was.
+pub(crate) fn replayed(result: Result<Option<Replayed>, Fault>, at: usize) -> Returned {
+    let none = ffi::Replayed {
+        state: result.err().map_or(0, |fault| fault as u8),
+        kind: 0,
+        association: 0,
+        next: at,
+        refusal: 0,
+        judgement: 0,
+        chunk: 0,
+        length: 0,
+        offset: 0,
+        delay: 0,
+    };
+    let Ok(Some(Replayed { kind, association, next, answer })) = result else {
+        return Returned::Replayed(none);
+    };
+    let made = ffi::Replayed { state: 1, kind: kind as u8, association, next, ..none };
+    Returned::Replayed(match answer {
+        Ok(Answer::Done) => made,
+        Ok(Answer::Written(length)) => ffi::Replayed { length: length as u16, ..made },
+        Ok(Answer::Received(Received { judgement, chunk, offset, delay })) => {
+            ffi::Replayed { judgement: judgement as u8, chunk: chunk as u8, offset, delay, ..made }
+        }
+        Err(refusal) => ffi::Replayed { refusal: refusal.number(), ..made },
     })
 }
 

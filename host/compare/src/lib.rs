@@ -4,8 +4,9 @@
 //! [`call::Call`] is a call with its arguments. It is made on three sides: the
 //! [`library`], the reference's [`plain`] table and store, and the reference on
 //! [`lent`](plain::Lent) ones. [`make`] draws calls at random; [`met`] counts what
-//! they led to, [`missed`] follows missed polls, and [`editions`] says what must be met of
-//! each edition; [`line`](mod@line) writes a call as the `cases` program reads it.
+//! they led to, [`missed`] follows missed polls, and [`editions`] and [`replay`] say what must
+//! be met of each edition and of traces; [`line`](mod@line) writes a call as the `cases`
+//! program reads it, and [`program`] prints a trace's replay as the `replay` program does.
 #![forbid(unsafe_code)]
 #![warn(missing_docs)]
 
@@ -20,6 +21,8 @@ pub mod make;
 pub mod met;
 pub mod missed;
 pub mod plain;
+pub mod program;
 pub mod random;
 pub mod reorder;
+pub mod replay;
 pub mod trial;

@@ -217,6 +217,9 @@ impl Side for Library {
                 refusal(calls::report(self.store.part_mut(), cookie, time))
             }
             Call::Answer(args) => self.answer(args),
+            Call::Replay { trace, at, out } => self.lend(trace, out, |side, trace, out| {
+                Returned::Replayed(calls::replay(side.table.part_mut(), trace, *at, out))
+            }),
             _ if call.on_table() => self.client(call),
             _ => self.single(call),
         };

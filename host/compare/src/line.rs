@@ -1,6 +1,7 @@
 //! Calls as the lines that the `cases` program reads, and their answers.
 
 use crate::call::{Answering, Call, Outcome};
+use crate::replay;
 use ntp5::ffi::Header;
 use std::fmt::Write;
 
@@ -15,24 +16,34 @@ pub fn numbers(numbers: &[u64]) -> String {
 
 /// Octets as pairs of digits; a run of four or more equal ones with its count.
 pub fn octets(octets: &[u8]) -> String {
-    if octets.is_empty() {
-        return "-".into();
-    }
     let mut text = String::new();
+    push_octets(&mut text, octets);
+    text
+}
+
+/// Appends octets in the same form.
+pub fn push_octets(text: &mut String, octets: &[u8]) {
+    if octets.is_empty() {
+        text.push('-');
+    }
     let mut counted = false;
     for run in octets.chunk_by(|a, b| a == b) {
         if counted {
             text.push(',');
         }
         counted = run.len() >= 4;
-        let times = if counted { 1 } else { run.len() };
-        text += &format!("{:02x}", run[0]).repeat(times);
+        let digits = [run[0] >> 4, run[0] & 15].map(|digit| char::from(DIGITS[usize::from(digit)]));
+        for _ in 0..if counted { 1 } else { run.len() } {
+            text.extend(digits);
+        }
         if counted {
             let _ = write!(text, "*{}", run.len());
         }
     }
-    text
 }
+
+/// The hexadecimal digits.
+const DIGITS: &[u8; 16] = b"0123456789abcdef";
 
 /// The values that a header has before its cookies, as the lines have them.
 fn values(h: &Header) -> String {
@@ -96,6 +107,10 @@ pub fn line(call: &Call, store: &[u8]) -> String {
         Call::Publish { selected, id, out } => {
             format!("publish {selected:#x} {} {}", octets(id), octets(out))
         }
+        Call::Replay { trace, at, .. } => match replay::direct(call) {
+            Some(call) => format!("{} # as a record of a trace", line(&call, store)),
+            None => format!("# no call is at place {at} of the trace {}", octets(trace)),
+        },
         Call::StoreClear => format!("store {}", store.len() / 16),
         Call::Report { cookie, time } => format!("report {cookie:#x} {time:#x}"),
         Call::Answer(args) => answer(args),

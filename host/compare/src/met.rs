@@ -4,6 +4,7 @@ use crate::call::{Call, Outcome, Returned};
 use crate::editions::{self, words};
 use crate::make::head::Clause;
 use crate::missed;
+use crate::replay;
 use reference::association::CHUNK_SIZES;
 use reference::chain::{Fields, MAC};
 use reference::edition::Edition;
@@ -18,7 +19,16 @@ impl Met {
     /// Counts what a call in this edition, or in none, led to.
     pub fn count(&mut self, call: &Call, outcome: &Outcome, edition: Option<Edition>) {
         let (words, edition) = (words(edition), edition.unwrap_or(Edition::Seven));
-        let key = format!("{} {}{words}", name(call), described(call, outcome, edition));
+        let key = |call: &Call, outcome: &Outcome| {
+            format!("{} {}{words}", name(call), described(call, outcome, edition))
+        };
+        let key = match (outcome.returned, replay::direct(call), replay::given(outcome)) {
+            (Returned::Replayed(_), Some(call), Some(outcome)) => {
+                replay::made(&key(&call, &outcome))
+            }
+            (Returned::Replayed(replayed), ..) => replay::not_made(replayed.state),
+            _ => key(call, outcome),
+        };
         *self.0.entry(key).or_default() += 1;
         if let Some(mac) = mac_outcome(call, outcome.returned.refusal()) {
             self.also(&format!("{mac}{words}"));
@@ -67,6 +77,7 @@ pub(crate) fn name(call: &Call) -> &'static str {
         Call::Receive { .. } => "receive",
         Call::Verdict { .. } => "verdict",
         Call::Publish { .. } => "publish",
+        Call::Replay { .. } => "replay",
         Call::StoreClear => "store",
         Call::Report { .. } => "report",
         Call::Answer(_) => "answer",
@@ -177,7 +188,7 @@ pub fn half_era_alone([t1, t2, t3, t4]: [u64; 4]) -> Option<&'static str> {
 }
 
 /// The refusals of each call, with 0 where success has no further outcomes.
-const REFUSALS: [(&str, &[u8]); 18] = [
+pub(crate) const REFUSALS: [(&str, &[u8]); 18] = [
     ("clear", &[0, 6]),
     ("open", &[0, 6, 7]),
     ("close", &[0, 6, 7]),
@@ -223,13 +234,14 @@ const OUTCOMES: [&str; 18] = [
 /// Every refusal of every call, every judgement with every chunk outcome, half an era in each
 /// of the four differences, every outcome of a datagram with a MAC, every verdict, 6 for
 /// every clause of a head's rule, and what [`missed`] tells of missed polls; most of it in
-/// edition 1 too, and what [`editions`] tells.
+/// edition 1 too, and what [`editions`] and [`replay`] tell.
 fn required() -> Vec<String> {
     let mut required: Vec<String> = OUTCOMES.map(String::from).to_vec();
     for (call, numbers) in REFUSALS {
         required.extend(numbers.iter().map(|number| format!("{call} {number}")));
     }
     required.extend(editions::outcomes());
+    required.extend(replay::required());
     for mode in ["basic", "interleaved"] {
         for judgement in 0..=5 {
             let chunk = |chunk| format!("receive 0 {mode} judgement {judgement} chunk {chunk}");

@@ -2,7 +2,8 @@
 
 use crate::call::{Call, Outcome, Returned, Side};
 use crate::convert::{
-    arguments, from_ffi, measurement, mode, plainly, read, received, verdict, weight, written,
+    arguments, from_ffi, measurement, mode, plainly, read, received, replayed, verdict, weight,
+    written,
 };
 use reference::chain;
 use reference::filter;
@@ -61,9 +62,10 @@ fn single(call: &Call, out: &mut [u8]) -> Returned {
 /// The buffer to be written, as lent.
 fn lent_out(call: &Call) -> Vec<u8> {
     match call {
-        Call::Poll { out, .. } | Call::Publish { out, .. } | Call::HeaderWrite { out, .. } => {
+        Call::Poll { out, .. } | Call::Publish { out, .. } | Call::Replay { out, .. } => {
             out.clone()
         }
+        Call::HeaderWrite { out, .. } => out.clone(),
         Call::Add { filter: out, .. } | Call::Union { into: out, .. } => out.clone(),
         Call::Answer(args) => args.out.clone(),
         _ => Vec::new(),
@@ -95,6 +97,7 @@ impl Side for Plain {
             Call::Publish { selected, ref id, .. } => {
                 written(table.publish(selected, id, &mut out))
             }
+            Call::Replay { ref trace, at, .. } => replayed(table.replay(trace, at, &mut out), at),
             Call::StoreClear => {
                 *self = Plain { table: std::mem::take(table), ..Plain::new(self.records) };
                 Returned::Refusal(0)
@@ -141,6 +144,9 @@ impl Side for Lent {
             Call::Verdict { association, ref id } => verdict(lent::verdict(table, association, id)),
             Call::Publish { selected, ref id, .. } => {
                 written(lent::publish(table, selected, id, &mut out))
+            }
+            Call::Replay { ref trace, at, .. } => {
+                replayed(lent::replay(table, trace, at, &mut out), at)
             }
             Call::StoreClear => plainly(lent::store_clear(store)),
             Call::Report { cookie, time } => {

@@ -12,6 +12,7 @@ use crate::missed::Runs;
 use crate::plain::{Lent, Plain};
 use crate::random::Random;
 use crate::reorder;
+use crate::replay;
 use reference::edition::Edition;
 use reference::header::{Header, RESPONSE};
 
@@ -91,12 +92,19 @@ fn reached(kind: Kind, random: &mut Random, keep: bool, met: &mut Met) -> Result
     let (mut runs, mut followed) = (Runs::default(), Followed::default());
     for _ in 0..length {
         let call = match kind {
-            Kind::Client => make::client::call(random, &plain.table, calm),
+            Kind::Client => {
+                let call = make::client::call(random, &plain.table, calm);
+                make::trace::replaying(random, call)
+            }
             Kind::Responder => make::responder::call(random, plain.store.row()),
             _ => make::single::call(random),
         };
         let before = plain.clone();
         let outcome = trial.compare(&call, &mut plain, met)?;
+        // A replayed record is followed as the call that it is.
+        let (Some(call), Some(outcome)) = (replay::direct(&call), replay::given(&outcome)) else {
+            continue;
+        };
         let noted = noted(&call, &outcome, &before, records);
         let half_era = half_era(&call, &outcome, &before);
         let mut also: Vec<String> = noted.into_iter().chain(half_era).collect();
@@ -169,7 +177,9 @@ fn any(kind: Kind, random: &mut Random, keep: bool, met: &mut Met) -> Result<u64
         let call = match (on_table, random.one_in(20)) {
             (true, true) => Call::Clear,
             (true, false) => {
-                make::client::call(random, &make::lent::known_table(&side.table), false)
+                let known = make::lent::known_table(&side.table);
+                let call = make::client::call(random, &known, false);
+                make::trace::replaying(random, call)
             }
             (false, true) => Call::StoreClear,
             (false, false) => make::responder::call(random, &make::lent::known_row(&side.store)),
@@ -207,7 +217,9 @@ impl Trial {
         if self.keep {
             self.made.push(line::line(call, &self.library.store()));
         }
-        let edition = editions::of_call(call, |association| self.library.state(association));
+        let direct = replay::direct(call);
+        let of = direct.as_deref().unwrap_or(call);
+        let edition = editions::of_call(of, |association| self.library.state(association));
         let outcome = self.library.make(call);
         met.count(call, &outcome, edition);
         let mut faults: Vec<String> = outcome.stray.iter().cloned().collect();

@@ -33,7 +33,7 @@ fn sides_do_the_same() {
 #[test]
 fn cases_are_what_their_names_say() {
     let all = || CASES.iter().chain(&WORST);
-    let find = |name| all().find(|case| case.name == name).expect("a case");
+    let find = |name: &str| all().find(|case| case.name == name).expect("a case");
     let received = find("receive-interleaved-16").run(Side::Library, 1);
     assert_eq!(received.datagram[7] & 2, 2);
     assert_eq!(find("receive-edition-1").run(Side::Library, 1).datagram.len(), 48);
@@ -44,6 +44,10 @@ fn cases_are_what_their_names_say() {
     }
     for name in ["answer-interleaved-64", "worst-answer", "worst-answer-irregular"] {
         assert_eq!(find(name).run(Side::Library, 1).out[7] & 2, 2, "{name}");
+    }
+    for (name, kind) in [("open", 1), ("poll-16", 2), ("sent", 3), ("receive-16", 4)] {
+        let datagram = find(&format!("replay-{name}")).run(Side::Library, 1).datagram;
+        assert_eq!(datagram[..4], [0x4E, 0x35, kind, 0], "{name}");
     }
     for case in all() {
         let (state, one) = ((case.state)(), case.name.ends_with("-edition-1"));

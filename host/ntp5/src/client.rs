@@ -2,7 +2,9 @@
 #![forbid(unsafe_code)]
 
 use crate::ffi::calls;
-use crate::{ClientCookie, Edition, Filter, Measured, ReferenceId, Refusal, Unusable};
+use crate::{
+    ClientCookie, Edition, Filter, Measured, ReferenceId, Refusal, Replayed, TraceFault, Unusable,
+};
 
 /// What a poll asks for.
 #[derive(Clone, Copy, Debug, PartialEq, Eq, Hash)]
@@ -32,6 +34,19 @@ pub struct Received {
     pub measured: Result<Measured, Unusable>,
     /// What became of the filter chunk.
     pub chunk: Chunk,
+}
+
+impl Received {
+    /// By the numbers of an answer that is no refusal.
+    pub(crate) fn of(judgement: u8, chunk: u8, offset: i64, delay: u64) -> Self {
+        let chunk = match chunk {
+            1 => Chunk::Taken,
+            2 => Chunk::Absent,
+            3 => Chunk::AnotherSize,
+            other => unreachable!("chunk outcome {other}"),
+        };
+        Received { measured: Measured::judged(judgement, offset, delay), chunk }
+    }
 }
 
 /// Whether a server follows a reference ID.
@@ -137,14 +152,8 @@ impl<B: AsRef<[u64]> + AsMut<[u64]>> Table<B> {
     ) -> Result<Received, Refusal> {
         let returned = calls::receive(self.0.as_mut(), association, datagram, t4);
         Refusal::check(returned.refusal)?;
-        let measured = Measured::judged(returned.judgement, returned.offset, returned.delay);
-        let chunk = match returned.chunk {
-            1 => Chunk::Taken,
-            2 => Chunk::Absent,
-            3 => Chunk::AnotherSize,
-            other => unreachable!("chunk outcome {other}"),
-        };
-        Ok(Received { measured, chunk })
+        let (judgement, chunk) = (returned.judgement, returned.chunk);
+        Ok(Received::of(judgement, chunk, returned.offset, returned.delay))
     }
 
     /// Whether the association's server follows the ID (refusals 6, 7).
@@ -166,5 +175,19 @@ impl<B: AsRef<[u64]> + AsMut<[u64]>> Table<B> {
         let written = calls::publish(self.0.as_ref(), selected, &id.0, &mut filter.0);
         Refusal::check(written.refusal)?;
         Ok(filter)
+    }
+
+    /// Makes the call of the record that begins `at` octets into a trace; none at the trace's
+    /// end, or past it. A wrong record makes none, and ends the replay.
+    ///
+    /// A poll is lent `out` as it is, of which 1,280 octets are always enough; the other calls
+    /// leave it alone. A call that is refused was made: the replay goes on after it.
+    pub fn replay(
+        &mut self,
+        trace: &[u8],
+        at: usize,
+        out: &mut [u8],
+    ) -> Result<Option<Replayed>, TraceFault> {
+        Replayed::of(calls::replay(self.0.as_mut(), trace, at, out))
     }
 }

@@ -17,6 +17,7 @@ mod filter;
 mod header;
 mod measure;
 mod refusal;
+mod replay;
 mod responder;
 
 // The README's example is compiled as a documentation test.
@@ -30,4 +31,5 @@ pub use filter::{Filter, ReferenceId};
 pub use header::{sound, ClientCookie, Header, ServerCookie, REQUEST, RESPONSE};
 pub use measure::{Measured, Times, Unusable};
 pub use refusal::Refusal;
+pub use replay::{Replayed, ReplayedCall, TraceFault};
 pub use responder::{Occasion, Server, Store};

@@ -7,9 +7,11 @@ use crate::exchange::{Mode, Received};
 use crate::header::{ClientCookie, ServerCookie};
 use crate::record;
 use crate::refusal::Refusal;
+use crate::replay::{Answer, Replayed};
 use crate::responder::{Occasion, Server};
 use crate::store::{self, Store};
 use crate::table::{Table, PLACES};
+use crate::trace::{self, Call, Fault};
 
 /// Numbers of a table.
 pub const TABLE_NUMBERS: usize = PLACES * record::NUMBERS;
@@ -109,6 +111,34 @@ pub fn publish(table: &[u64], selected: u16, id: &[u8], out: &mut [u8]) -> Resul
         }
     }
     plain.publish(selected, id, out)
+}
+
+/// See [`Table::replay`].
+pub fn replay(
+    table: &mut [u64],
+    trace: &[u8],
+    at: usize,
+    out: &mut [u8],
+) -> Result<Option<Replayed>, Fault> {
+    let Some(record) = trace::read_at(trace, at)? else {
+        return Ok(None);
+    };
+    let association = record.head.association;
+    let done = |()| Answer::Done;
+    let answer = match record.call {
+        Call::Open { edition, timescale, chunk } => {
+            open(table, association, edition, timescale, chunk).map(done)
+        }
+        Call::Poll { cookie, exponent, mode } => {
+            poll(table, association, cookie, exponent, mode, out).map(Answer::Written)
+        }
+        Call::Sent { t1 } => sent(table, association, t1).map(done),
+        Call::Receive { datagram, t4 } => {
+            receive(table, association, datagram, t4).map(Answer::Received)
+        }
+        Call::Close => close(table, association).map(done),
+    };
+    Ok(Some(Replayed::new(&record, answer)))
 }
 
 /// Makes all records unused; 6 if the size is wrong.

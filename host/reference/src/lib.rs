@@ -4,7 +4,7 @@
 //! shows an error in one of them. It is also the benchmark's rival: a table
 //! ([`table::Table`]) and a store ([`store::Store`]) are ordinary values here.
 //! [`lent`] makes the same calls on a lent table and store, whatever stands in them, as
-//! the library does.
+//! the library does. [`replay`] makes the calls of a [`trace`].
 #![forbid(unsafe_code)]
 #![warn(missing_docs)]
 
@@ -18,6 +18,8 @@ pub mod lent;
 pub mod measure;
 pub mod record;
 pub mod refusal;
+pub mod replay;
 pub mod responder;
 pub mod store;
 pub mod table;
+pub mod trace;

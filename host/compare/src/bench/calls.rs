@@ -70,6 +70,12 @@ pub(super) const PUBLISH: Sides = [
     made!(|s| lent::publish(&s.table, s.selected, &s.id, &mut s.out)),
 ];
 
+pub(super) const REPLAY: Sides = [
+    made!(|s| calls::replay(&mut s.table, &s.datagram, 0, &mut s.out)),
+    made!(|s| plain::replay(&mut s.plain, &s.datagram, &mut s.out)),
+    made!(|s| lent::replay(&mut s.table, &s.datagram, &mut s.out)),
+];
+
 pub(super) const STORE_CLEAR: Sides = [
     made!(|s| calls::store_clear(&mut s.store)),
     made!(|s| plain::store_clear(&mut s.plain_store, s.store.len() / RECORD_OCTETS)),

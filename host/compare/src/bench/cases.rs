@@ -1,9 +1,11 @@
 //! The calls as they usually are.
 
-use super::calls::{ADD, ANSWER, MEASURE, POLL, PUBLISH, RECEIVE, SOUND, VERDICT};
+use super::calls::{ADD, ANSWER, MEASURE, POLL, PUBLISH, RECEIVE, REPLAY, SOUND, VERDICT};
 use super::calls::{WEIGHT, WEIGHT_BY_OCTETS};
 use super::datagram::{filled, UNKNOWN};
+use super::recorded;
 use super::state::{basic_request, naming, poll_request, State};
+use super::worst::polled;
 use super::{Case, Reset};
 use reference::chain;
 use reference::edition::Edition;
@@ -61,7 +63,7 @@ fn half_an_era() -> State {
 
 /// All of them.
 #[rustfmt::skip]
-pub const CASES: [Case; 24] = [
+pub const CASES: [Case; 28] = [
     Case { name: "poll-16", state: || State::opened(Edition::Seven, 16), reset: Reset::Cookie, calls: POLL },
     Case { name: "poll-512", state: || State::opened(Edition::Seven, 512), reset: Reset::Cookie, calls: POLL },
     Case { name: "poll-edition-1", state: || State::opened(Edition::One, 16), reset: Reset::Cookie, calls: POLL },
@@ -73,6 +75,10 @@ pub const CASES: [Case; 24] = [
     Case { name: "loop-verdict", state: || State::complete(0), reset: Reset::Nothing, calls: VERDICT },
     Case { name: "publish-1", state: || State::complete(1), reset: Reset::Nothing, calls: PUBLISH },
     Case { name: "publish-16", state: || State::complete(u16::MAX), reset: Reset::Nothing, calls: PUBLISH },
+    Case { name: "replay-open", state: || recorded::open(header_only()), reset: Reset::Record, calls: REPLAY },
+    Case { name: "replay-poll-16", state: || recorded::poll(State::opened(Edition::Seven, 16)), reset: Reset::Record, calls: REPLAY },
+    Case { name: "replay-sent", state: || recorded::sent(State::with_table(polled(16))), reset: Reset::Record, calls: REPLAY },
+    Case { name: "replay-receive-16", state: || recorded::receive(State::asked(Edition::Seven, 16, 0)), reset: Reset::Record, calls: REPLAY },
     Case { name: "answer-48", state: header_only, reset: Reset::Nothing, calls: ANSWER },
     Case { name: "answer-poll", state: || State::with_datagram(poll_request(Edition::Seven)), reset: Reset::Nothing, calls: ANSWER },
     Case { name: "answer-1280", state: many_fields, reset: Reset::Nothing, calls: ANSWER },

@@ -26,7 +26,7 @@ pub fn instructions(program: &Path, folder: &Path, case: &Case, side: Side) -> R
     let written = folder.join(format!("callgrind.{}.{}", case.name, side.name()));
     let run = Command::new("valgrind")
         .args(["-q", "--tool=callgrind", "--collect-atstart=no"])
-        .arg(format!("--toggle-collect={}", side.functions()))
+        .arg(format!("--toggle-collect={}", case.functions(side)))
         .arg(format!("--callgrind-out-file={}", written.display()))
         .arg(program)
         .args(["--run", case.name, side.name()])

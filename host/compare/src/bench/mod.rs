@@ -8,6 +8,7 @@ mod calls;
 pub mod cases;
 pub mod cost;
 mod datagram;
+mod recorded;
 pub mod rival;
 pub mod state;
 pub mod worst;
@@ -15,6 +16,8 @@ pub mod worst;
 use calls::Sides;
 use ntp5::ffi;
 use reference::refusal::Refusal;
+use reference::replay::Replayed;
+use reference::trace::Fault;
 use state::State;
 
 /// Who makes a case's call.
@@ -38,14 +41,6 @@ impl Side {
             Side::Library => "library",
             Side::Plain => "plain",
             Side::Lent => "lent",
-        }
-    }
-
-    /// The functions whose instructions are counted, callees included.
-    fn functions(self) -> &'static str {
-        match self {
-            Side::Library => "ntp5_*",
-            Side::Plain | Side::Lent => "compare::bench::rival::*",
         }
     }
 }
@@ -79,6 +74,16 @@ impl Case {
     /// The call on one side.
     fn call(&self, side: Side) -> fn(&mut State) {
         self.calls[side as usize]
+    }
+
+    /// The functions whose instructions are counted, callees included.
+    fn functions(&self, side: Side) -> &'static str {
+        match side {
+            // A replay may make its call by another exported function, where counting would stop.
+            Side::Library if self.name.contains("replay") => "ntp5_replay",
+            Side::Library => "ntp5_*",
+            Side::Plain | Side::Lent => "compare::bench::rival::*",
+        }
     }
 
     /// Makes the call `times` times; gives the state that the last one left.
@@ -117,7 +122,15 @@ have_refusal! {
     ffi::Verdict: |returned| returned.refusal;
     ffi::Weight: |returned| returned.refusal;
     ffi::Read: |returned| returned.refusal;
+    ffi::Replayed: |returned| if returned.state == 1 { returned.refusal } else { NOT_MADE };
+    Result<Option<Replayed>, Fault>: |returned| match returned {
+        Ok(Some(replayed)) => replayed.answer.err().map_or(0, Refusal::number),
+        _ => NOT_MADE,
+    };
 }
+
+/// No refusal: a replay made no call.
+const NOT_MADE: u8 = u8::MAX;
 
 impl<T> HasRefusal for Result<T, Refusal> {
     fn refusal(&self) -> u8 {

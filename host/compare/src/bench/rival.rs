@@ -8,9 +8,11 @@ pub mod plain {
     use reference::header::{ClientCookie, Header, ServerCookie};
     use reference::measure::{Measured, Times};
     use reference::refusal::Refusal;
+    use reference::replay::Replayed;
     use reference::responder::{Occasion, Server};
     use reference::store::Store;
     use reference::table::Table;
+    use reference::trace::Fault;
     use reference::{chain, filter};
 
     /// See [`Table::clear`].
@@ -65,6 +67,16 @@ pub mod plain {
         out: &mut [u8],
     ) -> Result<usize, Refusal> {
         table.publish(selected, id, out)
+    }
+
+    /// See [`Table::replay`].
+    #[inline(never)]
+    pub fn replay(
+        table: &mut Table,
+        trace: &[u8],
+        out: &mut [u8],
+    ) -> Result<Option<Replayed>, Fault> {
+        table.replay(trace, 0, out)
     }
 
     /// See [`Store::new`].
@@ -149,7 +161,9 @@ pub mod lent {
     use reference::header::{ClientCookie, ServerCookie};
     use reference::lent;
     use reference::refusal::Refusal;
+    use reference::replay::Replayed;
     use reference::responder::{Occasion, Server};
+    use reference::trace::Fault;
 
     /// See [`lent::clear`].
     #[inline(never)]
@@ -202,6 +216,16 @@ pub mod lent {
         out: &mut [u8],
     ) -> Result<usize, Refusal> {
         lent::publish(table, selected, id, out)
+    }
+
+    /// See [`lent::replay`].
+    #[inline(never)]
+    pub fn replay(
+        table: &mut [u64],
+        trace: &[u8],
+        out: &mut [u8],
+    ) -> Result<Option<Replayed>, Fault> {
+        lent::replay(table, trace, 0, out)
     }
 
     /// See [`lent::store_clear`].

@@ -29,6 +29,7 @@ pub struct State {
     pub store_was: Vec<u8>,
     /// The number of the edition that a call names.
     pub edition: u8,
+    /// A datagram, or the trace that is replayed from its start.
     pub datagram: Vec<u8>,
     /// Datagrams that take their turns with the first, if there are any.
     pub others: Vec<Vec<u8>>,

@@ -2,8 +2,9 @@
 //! walk a chain also on chains that no processor can foresee.
 
 use super::calls::{ANSWER, CLEAR, CLOSE, HEADER_READ, HEADER_WRITE, OPEN, POLL, PUBLISH};
-use super::calls::{RECEIVE, REPORT, SENT, SOUND, STORE_CLEAR, UNION, VERDICT};
+use super::calls::{RECEIVE, REPLAY, REPORT, SENT, SOUND, STORE_CLEAR, UNION, VERDICT};
 use super::datagram::{filled, irregular, UNKNOWN};
+use super::recorded;
 use super::state::{basic_request, complete_table, State, FIRST_COOKIE};
 use super::{Case, Reset};
 use crate::random::Random;
@@ -27,7 +28,7 @@ fn poll_again(plain: &mut Table) {
 
 /// An outstanding request, the first after opening: its numbers, and that nothing is saved, take
 /// the most tests. What the numbers are costs nothing, since a call writes all of them.
-fn polled(c: u16) -> Table {
+pub(super) fn polled(c: u16) -> Table {
     let mut plain = Table::default();
     plain.open(0, Edition::Seven as u8, 0, c).expect("an offered size");
     poll_again(&mut plain);
@@ -115,7 +116,7 @@ fn any() -> State {
 
 /// All of them.
 #[rustfmt::skip]
-pub const WORST: [Case; 20] = [
+pub const WORST: [Case; 21] = [
     Case { name: "worst-clear", state: any, reset: Reset::Nothing, calls: CLEAR },
     Case { name: "worst-open", state: any, reset: Reset::Record, calls: OPEN },
     Case { name: "worst-close", state: || State::with_table(polled(16)), reset: Reset::Record, calls: CLOSE },
@@ -125,6 +126,7 @@ pub const WORST: [Case; 20] = [
     Case { name: "worst-receive-irregular", state: || with_irregular(padded_fields(), &basic_answer()), reset: Reset::Record, calls: RECEIVE },
     Case { name: "worst-loop-verdict", state: all_outstanding, reset: Reset::Nothing, calls: VERDICT },
     Case { name: "worst-publish", state: all_outstanding, reset: Reset::Nothing, calls: PUBLISH },
+    Case { name: "worst-replay", state: || recorded::receive(padded_fields()), reset: Reset::Record, calls: REPLAY },
     Case { name: "worst-store-clear", state: || State::stored(64, 64, Vec::new()), reset: Reset::Nothing, calls: STORE_CLEAR },
     Case { name: "worst-report", state: unreported, reset: Reset::Store, calls: REPORT },
     Case { name: "worst-answer", state: repeated_names, reset: Reset::Store, calls: ANSWER },

@@ -11,8 +11,10 @@ pub mod client;
 pub mod datagram;
 pub mod head;
 pub mod lent;
+pub mod recorded;
 pub mod responder;
 pub mod single;
+pub mod trace;
 
 /// Numbers that are no edition's: next to one, at the ends, one in another number system.
 pub const NO_EDITION: [u8; 8] = [0, 2, 6, 8, 17, 129, 135, 255];

@@ -69,6 +69,13 @@ pub fn publish(table: &[u64], selected: u16, id: &[u8], out: &mut [u8]) -> Writt
     unsafe { ntp5_publish(numbers, len, selected, id.as_ptr(), id.len(), room, room_len) }
 }
 
+/// Makes the call of the record at a place of a trace.
+pub fn replay(table: &mut [u64], trace: &[u8], at: usize, out: &mut [u8]) -> Replayed {
+    let (numbers, len) = (table.as_mut_ptr(), table.len());
+    let (room, room_len) = (out.as_mut_ptr(), out.len());
+    unsafe { ntp5_replay(numbers, len, trace.as_ptr(), trace.len(), at, room, room_len) }
+}
+
 /// Makes all records of a store unused.
 pub fn store_clear(store: &mut [u8]) -> u8 {
     unsafe { ntp5_store_clear(store.as_mut_ptr(), store.len()) }

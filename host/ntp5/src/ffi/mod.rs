@@ -111,6 +111,32 @@ pub struct Read {
     pub header: Header,
 }
 
+/// `ntp5_replayed`: what stood at a place of a trace, and what its call gave.
+#[repr(C)]
+#[derive(Clone, Copy, Debug, PartialEq, Eq)]
+pub struct Replayed {
+    /// 0 the end, 1 a call was made, 2 to 5 what is wrong.
+    pub state: u8,
+    /// 1 open, 2 poll, 3 sent, 4 receive, 5 close.
+    pub kind: u8,
+    /// The association that the call named.
+    pub association: u8,
+    /// Where the next record begins, or the place asked for if no call was made.
+    pub next: usize,
+    /// 0, or the refusal number.
+    pub refusal: u8,
+    /// Of a receive: 0 usable, or why it is not.
+    pub judgement: u8,
+    /// Of a receive: 1 taken, 2 absent, 3 another size.
+    pub chunk: u8,
+    /// Of a poll: octets written.
+    pub length: u16,
+    /// Of a receive: offset in 2^-32 s.
+    pub offset: i64,
+    /// Of a receive: delay in 2^-32 s.
+    pub delay: u64,
+}
+
 #[rustfmt::skip]
 extern "C" {
     fn ntp5_table_words() -> usize;
@@ -127,6 +153,8 @@ extern "C" {
         id_len: usize) -> Verdict;
     fn ntp5_publish(table: *const u64, table_len: usize, selected: u16, id: *const u8, id_len: usize,
         out: *mut u8, out_len: usize) -> Written;
+    fn ntp5_replay(table: *mut u64, table_len: usize, trace: *const u8, trace_len: usize, at: usize,
+        out: *mut u8, out_len: usize) -> Replayed;
     fn ntp5_store_clear(store: *mut u8, store_len: usize) -> u8;
     fn ntp5_report(store: *mut u8, store_len: usize, server_cookie: u64, time: u64) -> u8;
     fn ntp5_answer(store: *mut u8, store_len: usize, edition: u8, request: *const u8,

@@ -1,0 +1,3 @@
+-- The laws that the code's proofs cite. Assumes nothing.
+pub mod Actions
+pub mod Making

@@ -1,0 +1,2 @@
+-- What a record's call answers.
+pub mod Answers

@@ -1,0 +1,8 @@
+-- The laws of a trace. Assumes nothing.
+pub mod Faults
+pub mod Entries
+pub mod Recorded
+pub mod Listings
+pub mod Sounds
+pub mod Replays
+pub mod Demand3

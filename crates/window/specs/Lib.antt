@@ -1,0 +1,2 @@
+-- The part of a trace that a program holds.
+pub mod Window
