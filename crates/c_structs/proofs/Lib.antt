@@ -1,3 +1,2 @@
 -- What the proofs of the exports use. Assumes nothing.
 pub mod Converted
-pub mod Replaying

@@ -1,4 +1,5 @@
 // The structs of the C interface. C has no enums that hold values, so each case of a core answer becomes its numbers (G-11).
+use client::Mode;
 use client::Polled;
 use client::Published;
 use filter_weight::Weighing;
@@ -6,7 +7,7 @@ use responder_rules::Answered;
 ghost use mathlib.Core.Path.{_≡_};
 ghost use mathlib.Core.List.{[]};
 ghost use Rattle.filter_weight.specs.Weighing.{numbers};
-ghost use Rattle.client.specs.Answers.{polledAnswer, publishedAnswer, receivedAnswer, verdictAnswerOf};
+ghost use Rattle.client.specs.Answers.{isInterleaved, polledAnswer, publishedAnswer, receivedAnswer, verdictAnswerOf};
 ghost use Rattle.responder_rules.specs.Answer.{outcome};
 ghost use Rattle.c_structs.specs.Numbers.{writtenNumbers, receivedNumbers, verdictNumbers, outcomeNumbers, weightNumbers, measurementNumbers};
 
@@ -46,6 +47,17 @@ pub struct Measurement {
     pub judgement: u8,
     pub offset: i64,
     pub delay: u64,
+}
+
+// C's bool for the mode that a poll wants.
+pub fn mode(interleaved: bool) -> Mode
+    ensures { λ r. ⌜ isInterleaved r ≡ interleaved ⌝ }
+{
+    if interleaved {
+        Mode::Interleaved
+    } else {
+        Mode::Basic
+    }
 }
 
 pub fn of_polled(polled: Polled) -> Written

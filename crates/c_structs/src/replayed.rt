@@ -1,18 +1,16 @@
 // A replayed record of a trace, as C is given it.
 use crate::answers::Received;
-use crate::answers::of_polled;
-use crate::answers::of_received;
-use trace::Answered;
 use trace_rules::Action;
 use trace_rules::Fault;
 use trace_rules::Found;
+use trace_rules::Record;
 ghost use mathlib.Core.Path.{_≡_};
 ghost use mathlib.Core.List.{[]};
 ghost use Rattle.client_rules.specs.Call.{plainAnswer};
 ghost use Rattle.trace_rules.specs.Written.{kindOf};
-ghost use Rattle.trace.specs.Answers.{answeredOf, replayedOf};
+ghost use Rattle.trace_rules.specs.Replay.{notMade};
 ghost use Rattle.c_structs.specs.Numbers.{receivedNumbers};
-ghost use Rattle.c_structs.specs.Replayed.{faultNumber, stateOf, kindFound, associationFound, measuredPart, replayedNumbers};
+ghost use Rattle.c_structs.specs.Replayed.{faultNumber, notMadeNumbers, madeNumbers, replayedNumbers};
 
 // W208-13: what was found, where the next record begins, and what the call answered; all but state and next are 0 where none was made.
 #[repr(C)]
@@ -40,16 +38,6 @@ fn fault_number(fault: Fault) -> u8
     }
 }
 
-fn state_of(found: Found) -> u8
-    ensures { λ r. ⌜ r ≡ stateOf found ⌝ }
-{
-    match found {
-        Found::Call(_) => 1,
-        Found::End => 0,
-        Found::Wrong(fault) => fault_number(fault),
-    }
-}
-
 fn kind_of(action: Action) -> u8
     ensures { λ r. ⌜ r ≡ kindOf action ⌝ }
 {
@@ -62,41 +50,55 @@ fn kind_of(action: Action) -> u8
     }
 }
 
-fn kind_found(found: Found) -> u8
-    ensures { λ r. ⌜ r ≡ kindFound found ⌝ }
+// A call that was made: what it answered as a receive does, and how many octets it wrote.
+pub fn of_made(record: Record, next: usize, answered: Received, length: u16) -> Replayed
+    ensures { λ r. ⌜ r ≡ madeNumbers «record» next (receivedNumbers answered) length ⌝ }
+{
+    let action = record.action;
+    Replayed {
+        state: 1,
+        kind: kind_of(action),
+        association: record.association,
+        next,
+        refusal: answered.refusal,
+        judgement: answered.judgement,
+        chunk: answered.chunk,
+        length,
+        offset: answered.offset,
+        delay: answered.delay,
+    }
+}
+
+// A place where no call is made.
+pub fn not_made(found: Found, at: usize) -> Replayed
+    ensures { λ r. ⌜ r ≡ replayedNumbers (notMade found at [] []) ⌝ }
 {
     match found {
-        Found::Call(record) => {
-            let action = record.action;
-            kind_of(action)
-        }
-        Found::End => 0,
-        Found::Wrong(_) => 0,
+        Found::Call(record) => of_made(record, at, of_refusal(0), 0),
+        Found::End => stopped(0, at),
+        Found::Wrong(fault) => stopped(fault_number(fault), at),
     }
 }
 
-fn association_found(found: Found) -> u8
-    ensures { λ r. ⌜ r ≡ associationFound found ⌝ }
+fn stopped(state: u8, at: usize) -> Replayed
+    ensures { λ r. ⌜ r ≡ notMadeNumbers state at ⌝ }
 {
-    match found {
-        Found::Call(record) => record.association,
-        Found::End => 0,
-        Found::Wrong(_) => 0,
+    Replayed {
+        state,
+        kind: 0,
+        association: 0,
+        next: at,
+        refusal: 0,
+        judgement: 0,
+        chunk: 0,
+        length: 0,
+        offset: 0,
+        delay: 0,
     }
 }
 
-// The refusal, and what a receive answers besides.
-fn measured(answered: Answered) -> Received
-    ensures { λ r. ⌜ receivedNumbers r ≡ measuredPart (answeredOf answered []) ⌝ }
-{
-    match answered {
-        Answered::Changed(refusal) => refused(refusal),
-        Answered::Polled(polled) => refused(of_polled(polled).refusal),
-        Answered::Received(received) => of_received(received),
-    }
-}
-
-fn refused(refusal: u8) -> Received
+// The answer of a call that has no other numbers.
+pub fn of_refusal(refusal: u8) -> Received
     ensures { λ r. ⌜ receivedNumbers r ≡ plainAnswer refusal [] ⌝ }
 {
     Received {
@@ -105,36 +107,5 @@ fn refused(refusal: u8) -> Received
         chunk: 0,
         offset: 0,
         delay: 0,
-    }
-}
-
-// How many octets a poll wrote.
-fn length(answered: Answered) -> u16
-    ensures { λ r. ⌜ r ≡ answeredOf answered [] .size ⌝ }
-{
-    match answered {
-        Answered::Changed(_) => 0,
-        Answered::Polled(polled) => of_polled(polled).length,
-        Answered::Received(_) => 0,
-    }
-}
-
-pub fn of_replayed(replayed: trace::Replayed) -> Replayed
-    ensures { λ r. ⌜ r ≡ replayedNumbers (replayedOf replayed [] []) ⌝ }
-{
-    let found = replayed.found;
-    let answered = replayed.answered;
-    let measured = measured(answered);
-    Replayed {
-        state: state_of(found),
-        kind: kind_found(found),
-        association: association_found(found),
-        next: replayed.next,
-        refusal: measured.refusal,
-        judgement: measured.judgement,
-        chunk: measured.chunk,
-        length: length(answered),
-        offset: measured.offset,
-        delay: measured.delay,
     }
 }

@@ -55,7 +55,7 @@ pub extern "C" fn ntp5_poll(
 ) -> Written
     ensures { λ r. ⌜ (writtenNumbers r (now (out .exit)), now (table .exit)) ≡ stepNumbers (poll association «client_cookie» exponent interleaved (now (out .entry))) (now (table .entry)) ⌝ }
 {
-    let mode = client::mode_of(interleaved);
+    let mode = answers::mode(interleaved);
     let polled = client::poll(
         table,
         association,

@@ -1,6 +1,6 @@
 // The input as records: each is replayed once it is there whole.
 use crate::lines;
-use c_structs::replayed::of_replayed;
+use ntp5::trace_calls::ntp5_replay;
 use text::part;
 use text::rest;
 
@@ -51,8 +51,7 @@ fn step(window: &[u8], state: State, table: &mut [u64], out: &mut [u8]) -> State
     if state.last {
         return state;
     }
-    let replayed = trace::replay(table, part(window, 0, state.count), state.at, out);
-    let record = of_replayed(replayed);
+    let record = ntp5_replay(table, part(window, 0, state.count), state.at, out);
     let made = record.state == 1;
     let wanting = !state.ended & ((record.state == 0) | (record.state == 5));
     let mut number = state.number;

@@ -1,3 +1,2 @@
 -- The laws that the code's proofs cite. Assumes nothing.
 pub mod Actions
-pub mod Making

@@ -1,89 +1,100 @@
-// A trace of client calls, W-208: one record is read, and its call made on a lent table.
-mod record;
-
-use client::Polled;
-use client::Received;
-use record::HEAD;
+// A trace of client calls, W-208: what it begins with.
+use header::ClientCookie;
+use octets::number::get8;
+use octets::number::get16;
+use octets::number::get64;
+use octets::sign::from_octet;
 use trace_rules::Action;
+use trace_rules::Fault;
 use trace_rules::Found;
+use trace_rules::Record;
 ghost use mathlib.Core.Path.{_≡_};
-ghost use Rattle.trace_rules.specs.Replay.{replayAt};
-ghost use Rattle.trace.specs.declared.Answered.the-variants.{Changed};
-ghost use Rattle.trace.specs.Answers.{answeredOf, madeOf, replayedOf};
+ghost use Prim.Native.Nat.{_+_, _≤_};
+ghost use lib.ListN.{length};
+ghost use Rattle.trace_rules.specs.Record.{headSize, dataSize, wrongMode, actionOf, recordOf, foundIn};
 
-// What a record's call answered.
-pub enum Answered {
-    // Of opening, a report of a send, and closing: 0 or a refusal. Where no call was made, 0.
-    Changed(u8),
-    Polled(Polled),
-    Received(Received),
-}
+// W208-2: the octets before the data.
+pub const HEAD: usize = 14;
 
-// What was found at a place, where the next record begins, or the place itself where no call was made, and what the call answered.
-pub struct Replayed {
-    pub found: Found,
-    pub next: usize,
-    pub answered: Answered,
-}
+// W208-1.
+const MARK: u16 = 0x4E35;
 
-// The call of a record.
-fn make(
-    table: &mut [u64],
-    association: u8,
-    action: Action,
-    datagram: &[u8],
-    out: &mut [u8],
-) -> Answered
-    ensures { λ r. ⌜ (answeredOf r (now (out .exit)), now (out .exit), now (table .exit)) ≡ madeOf (now (out .entry)) (now (datagram .entry)) association action (now (table .entry)) ⌝ }
+// W208-4.
+fn data_size(kind: u8, size: usize) -> usize
+    ensures { λ r. ⌜ r ≡ dataSize kind size ⌝ }
 {
-    match action {
-        Action::Open(edition, timescale, chunk) => {
-            let refusal = client::open(table, association, edition, timescale, chunk);
-            Answered::Changed(refusal)
-        }
-        Action::Poll(cookie, exponent, interleaved) => {
-            let mode = client::mode_of(interleaved);
-            let polled = client::poll(table, association, cookie, exponent, mode, out);
-            Answered::Polled(polled)
-        }
-        Action::Sent(t1) => Answered::Changed(client::sent(table, association, t1)),
-        Action::Receive(t4) => {
-            let received = client::receive(table, association, datagram, t4);
-            Answered::Received(received)
-        }
-        Action::Close => Answered::Changed(client::close(table, association)),
+    match kind {
+        1 => 4,
+        2 => 10,
+        4 => size,
+        _ => 0,
     }
 }
 
-// A place where no call is made.
-fn not_made(found: Found, at: usize) -> Replayed
-    ensures { λ r. ⌜ r ≡ record { found = found; next = at; answered = Changed 0 } ⌝ }
+// W208-4.
+fn wrong_mode(kind: u8, s: &[u8]) -> bool
+    requires { ⌜ headSize + dataSize kind 0 ≤ length (now s) ⌝ }
+    ensures { λ r. ⌜ r ≡ wrongMode kind (now (s .entry)) ⌝ }
 {
-    Replayed {
-        found,
-        next: at,
-        answered: Answered::Changed(0),
+    if kind == 2 {
+        return 1 < get8(s, 23);
+    }
+    false
+}
+
+// W208-4, W208-5.
+fn action(kind: u8, s: &[u8]) -> Action
+    requires { ⌜ headSize + dataSize kind 0 ≤ length (now s) ⌝ }
+    ensures { λ r. ⌜ r ≡ actionOf kind (now (s .entry)) ⌝ }
+{
+    match kind {
+        1 => Action::Open(get8(s, 14), get8(s, 15), get16(s, 16)),
+        2 => Action::Poll(
+            ClientCookie(get64(s, 14)),
+            from_octet(get8(s, 22)),
+            get8(s, 23) == 1,
+        ),
+        3 => Action::Sent(get64(s, 6)),
+        4 => Action::Receive(get64(s, 6)),
+        _ => Action::Close,
     }
 }
 
-// W208-10: the record at a place of a trace, replayed on a table. A poll is lent `out` as it is.
-pub fn replay(table: &mut [u64], trace: &[u8], at: usize, out: &mut [u8]) -> Replayed
-    ensures { λ r. ⌜ replayedOf r (now (out .exit)) (now (table .exit)) ≡ replayAt (now (trace .entry)) at (now (out .entry)) (now (table .entry)) ⌝ }
+// W208-6, W208-7: the first fault of a record whose head is there and has the mark, or its call.
+fn record(kind: u8, size: usize, s: &[u8]) -> Found
+    requires { ⌜ headSize ≤ length (now s) ⌝ }
+    ensures { λ r. ⌜ r ≡ recordOf kind size (now (s .entry)) ⌝ }
 {
-    if trace.len() <= at {
-        return not_made(Found::End, at);
+    if !((0 < kind) & (kind < 6)) {
+        return Found::Wrong(Fault::Kind);
     }
-    let rest = &trace[at..];
-    let found = record::read(rest);
-    let Found::Call(record) = found else {
-        return not_made(found, at);
-    };
-    let action = record.action;
-    let end = HEAD + record.size;
-    let answered = make(table, record.association, action, &rest[HEAD..end], out);
-    Replayed {
-        found,
-        next: at + end,
-        answered,
+    if size != data_size(kind, size) {
+        return Found::Wrong(Fault::Length);
     }
+    if s.len() - HEAD < size {
+        return Found::Wrong(Fault::Cut);
+    }
+    if wrong_mode(kind, s) {
+        return Found::Wrong(Fault::Kind);
+    }
+    Found::Call(Record {
+        association: get8(s, 3),
+        action: action(kind, s),
+        size,
+    })
+}
+
+pub fn read(s: &[u8]) -> Found
+    ensures { λ r. ⌜ r ≡ foundIn (now (s .entry)) ⌝ }
+{
+    if s.len() == 0 {
+        return Found::End;
+    }
+    if s.len() < HEAD {
+        return Found::Wrong(Fault::Cut);
+    }
+    if get16(s, 0) != MARK {
+        return Found::Wrong(Fault::Mark);
+    }
+    record(get8(s, 2), get16(s, 4) as usize, s)
 }

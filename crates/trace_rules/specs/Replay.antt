@@ -5,7 +5,8 @@ use lib.ListN.{length, drop}
 use Rattle.order.specs.Order.{TaggedAnswer}
 use Rattle.client_rules.specs.Call.{Answer, plainAnswer}
 use Rattle.client_rules.specs.Numbers.{stepNumbers}
-use Rattle.trace_rules.specs.Record.{headSize, foundIn, callIn, lentAfter}
+use Rattle.trace_rules.specs.Record.{headSize, foundIn, dataIn, callOf, lentAfter}
+use Rattle.trace_rules.specs.declared.Record.{Record}
 use Rattle.trace_rules.specs.declared.Found.{Found}
 use Rattle.trace_rules.specs.declared.Found.the-variants.{Call, End, Wrong}
 
@@ -21,15 +22,19 @@ pub record Replayed : Type 0 where
 abbrev pub notMade : Found → (at : ℕ) (out t : List ℕ) → Replayed
 notMade f at out t = record { found = f; next = at; answer = plainAnswer 0 []; out = out; table = t }
 
+-- a record's call, with its datagram and the place after it
+abbrev pub madeBy : Record → (datagram : List ℕ) (next : ℕ) (out t : List ℕ) → Replayed
+madeBy r datagram next out t = record {
+  found = Call r;
+  next = next;
+  answer = stepNumbers (callOf out datagram (r .association) (r .action)) t .0;
+  out = lentAfter out (r .action) (stepNumbers (callOf out datagram (r .association) (r .action)) t .0);
+  table = stepNumbers (callOf out datagram (r .association) (r .action)) t .1;
+}
+
 -- the call of what s begins with
 abbrev pub replayFound : (s : List ℕ) → Found → (at : ℕ) (out t : List ℕ) → Replayed
-replayFound s (Call r) at out t = record {
-  found = Call r;
-  next = at + (headSize + r .size);
-  answer = stepNumbers (callIn out s r) t .0;
-  out = lentAfter out (r .action) (stepNumbers (callIn out s r) t .0);
-  table = stepNumbers (callIn out s r) t .1;
-}
+replayFound s (Call r) at out t = madeBy r (dataIn s r) (at + (headSize + r .size)) out t
 replayFound s End at out t = notMade End at out t
 replayFound s (Wrong f) at out t = notMade (Wrong f) at out t
 

@@ -13,8 +13,8 @@ use borrow.Author.Needs.{needs}
 use Rattle.ntp5.proofs.client_calls.ntp5_poll.Statement.{statement}
 use Rattle.ntp5.proofs.client_calls.ntp5_poll.Tie as tie
 
-mode-of-requires : tie.Need-mode-of-requires
-mode-of-requires c κs = search needs
+mode-requires : tie.Need-mode-requires
+mode-requires c κs = search needs
 
 poll-requires : tie.Need-poll-requires
 poll-requires c κs = search needs
@@ -35,10 +35,10 @@ returns c =
     let a = start .args in
     let exponent : toZ w8 (ofZ w8 (a .exponent)) ≡ a .exponent = toZ-ofZ (start .fits .exponent) in
     polled-converted _ _ _ (at .poll .result) (c .of-polled .ensures) ∙ at .poll .ensures
-    ∙ ap (λ (e : ℤ). stepNumbers (poll (a .association) (a .client-cookie) e (isInterleaved (at .before .before .before .mode-of .result)) (a .out .now)) (a .table .now)) exponent
-    ∙ ap (λ (i : Bool). stepNumbers (poll (a .association) (a .client-cookie) (a .exponent) i (a .out .now)) (a .table .now)) (at .before .before .before .mode-of .ensures)
+    ∙ ap (λ (e : ℤ). stepNumbers (poll (a .association) (a .client-cookie) e (isInterleaved (at .before .before .before .mode .result)) (a .out .now)) (a .table .now)) exponent
+    ∙ ap (λ (i : Bool). stepNumbers (poll (a .association) (a .client-cookie) (a .exponent) i (a .out .now)) (a .table .now)) (at .before .before .before .mode .ensures)
 
 pub ntp5-poll-spec : {M : Type 1} → statement M
 ntp5-poll-spec =
     tie.close
-    (tie.spec mode-of-requires poll-requires of-polled-requires same-length same-length-2 returns)
+    (tie.spec mode-requires poll-requires of-polled-requires same-length same-length-2 returns)

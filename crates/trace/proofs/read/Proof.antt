@@ -8,8 +8,8 @@ use Rattle.octets.specs.Number.{num}
 use Rattle.octets.proofs.Numbers.{got}
 use Rattle.trace_rules.specs.Record.{mark, foundIn, recordOf}
 use borrow.Author.Needs.{needs}
-use Rattle.trace.proofs.record.read.Statement.{statement}
-use Rattle.trace.proofs.record.read.Tie as tie
+use Rattle.trace.proofs.read.Statement.{statement}
+use Rattle.trace.proofs.read.Tie as tie
 
 returns : tie.Need-returns
 unfolding foundIn

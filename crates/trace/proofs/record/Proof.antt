@@ -10,8 +10,8 @@ use Rattle.octets.proofs.Numbers.{got}
 use Rattle.trace_rules.specs.Record.{headSize, isKind, dataSize}
 use Rattle.trace.proofs.Actions.{least-room}
 use borrow.Author.Needs.{needs}
-use Rattle.trace.proofs.record.record.Statement.{statement}
-use Rattle.trace.proofs.record.record.Tie as tie
+use Rattle.trace.proofs.record.Statement.{statement}
+use Rattle.trace.proofs.record.Tie as tie
 
 returns : tie.Need-returns
 returns c = rw (c .if1 .taken)

@@ -6,8 +6,8 @@ use borrow.Author.Tests.{eq-eqb, ne-eqb}
 use Rattle.octets.proofs.Numbers.{got}
 use Rattle.trace_rules.specs.Record.{headSize}
 use borrow.Author.Needs.{needs}
-use Rattle.trace.proofs.record.wrong_mode.Statement.{statement}
-use Rattle.trace.proofs.record.wrong_mode.Tie as tie
+use Rattle.trace.proofs.wrong_mode.Statement.{statement}
+use Rattle.trace.proofs.wrong_mode.Tie as tie
 
 get8-requires : tie.Need-get8-requires
 get8-requires c κs = search needs

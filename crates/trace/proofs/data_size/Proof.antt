@@ -1,7 +1,7 @@
 -- `data_size` meets its contract: the kind says which case it is. Assumes nothing.
 use borrow.Author.Tests.{ne-eqb}
-use Rattle.trace.proofs.record.data_size.Statement.{statement}
-use Rattle.trace.proofs.record.data_size.Tie as tie
+use Rattle.trace.proofs.data_size.Statement.{statement}
+use Rattle.trace.proofs.data_size.Tie as tie
 
 returns : tie.Need-returns
 returns c = rw (c .match .keys1)

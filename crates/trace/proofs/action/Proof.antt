@@ -3,8 +3,8 @@ use mir.Syntax.{w8}
 use mir.Facts.{toZ-ofZ}
 use Rattle.trace.proofs.Actions.{open-action, poll-action, sent-action, receive-action, close-action}
 use borrow.Author.Needs.{needs}
-use Rattle.trace.proofs.record.action.Statement.{statement}
-use Rattle.trace.proofs.record.action.Tie as tie
+use Rattle.trace.proofs.action.Statement.{statement}
+use Rattle.trace.proofs.action.Tie as tie
 
 get8-requires : tie.Need-get8-requires
 get8-requires c κs = search needs

@@ -1,0 +1,2 @@
+-- What the proofs of the exports cite. Assumes nothing.
+mod Replaying

@@ -1,2 +1,0 @@
--- What a record's call answers.
-pub mod Answers
