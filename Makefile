@@ -1,6 +1,7 @@
 # `make` alone prints these lines:
 #   make test       the gate: every proof from nothing, every must-fail edit, every program, the library from C and Rust
 #   make demo       a small rack's story, told by the case program line by line
+#   make replay     a trace, one line for each record; TRACE= which file (examples/rack.trace)
 #   make lib        the C library, target/staticlib/libntp5.a; include/ntp5.h declares it
 #   make example    the examples in C on the library
 #   make host       the library's tests from Rust
@@ -9,8 +10,9 @@
 #   make install    header, library and pkg-config file; PREFIX= (/usr/local), LIBDIR= (PREFIX/lib), DESTDIR= before both
 #   make uninstall  removes these again
 #   make clean      removes all that was built
-.PHONY: help test demo lib example host bench soak install uninstall clean
+.PHONY: help test demo replay lib example host bench soak install uninstall clean
 .NOTPARALLEL:
+TRACE = examples/rack.trace
 COUNT = 10000000
 SEED =
 PREFIX = /usr/local
@@ -25,6 +27,9 @@ test:
 
 demo:
 	@tools/demo
+
+replay:
+	@tools/replay '$(TRACE)'
 
 lib:
 	@tools/lib

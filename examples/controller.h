@@ -1,6 +1,7 @@
 /*
- * What the controllers of both examples have in common: the buffers that they lend to the library, what they do at start, as a
- * server and about loops, and the checks. A check that fails ends the process with 1 and a message that names the line.
+ * What the examples have in common: the buffers that the controllers of main_loop.c and udp.c lend to the library, what they do at
+ * start, as a server and about loops; and, for replay.c too, the checks, the size of a table and the verdicts in words. A check
+ * that fails ends the process with 1 and a message that names the line.
  */
 #ifndef CONTROLLER_H
 #define CONTROLLER_H
@@ -11,7 +12,7 @@
 #include "ntp5.h"
 
 enum {
-    EDITION = 7,                       /* of the draft, that both examples' controllers speak */
+    EDITION = 7,                       /* of the draft, that both controllers speak */
     INTERLEAVED = 0x2,                 /* the header's flag in that edition */
     TAI_UTC = 37,                      /* seconds; only edition 1 sends it */
     SOURCE = 0,                        /* the association for the other controller; a real client has up to sixteen */
@@ -87,13 +88,18 @@ static inline void start(controller *c)
     follow(c, 0);
 }
 
+static inline const char *verdict_word(uint8_t verdict)
+{
+    static const char *const words[] = {"?", "incomplete", "loop", "clear"};
+    return words[verdict];
+}
+
 /* Whether a server follows this controller, as far as the chunks say that have come. */
 static inline uint8_t verdict_on(const controller *c, uint8_t association, const char *name)
 {
-    static const char *const says[] = {"?", "incomplete", "loop", "clear"};
     ntp5_verdict v = ntp5_loop_verdict(c->table, ntp5_table_words(), association, c->id, sizeof c->id);
     ACCEPTED(v.refusal);
-    printf("%s: verdict on %s: %s\n", c->name, name, says[v.verdict]);
+    printf("%s: verdict on %s: %s\n", c->name, name, verdict_word(v.verdict));
     return v.verdict;
 }
 

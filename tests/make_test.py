@@ -2,7 +2,7 @@
 """Tests the Makefile's targets and what they share, in a small repository with an rt of its own that proves nothing.
 
 A tool that is missing is named before rt is called; the library is built again exactly when something has changed; and what
-is shown while rt works, what is left when it fails, and that nothing is left when it is interrupted.
+is shown while rt works, what is left when it fails, and that nothing is left when it is interrupted; and a replay's trace and status.
 """
 import contextlib
 import fcntl
@@ -24,10 +24,11 @@ import unittest
 from counted import counted
 
 TOP = pathlib.Path(__file__).resolve().parent.parent
-CRATES = "# NAME: uses\noctets:\nfilter: octets\nntp5: octets filter\ncases: octets io\n"
+CRATES = "# NAME: uses\noctets:\nfilter: octets\nntp5: octets filter\ncases: octets io\nreplay: ntp5 io\n"
 NEEDED = {
     "test": ("gate", "rt python3 cc cargo nm objdump"),
     "demo": ("demo", "rt python3"),
+    "replay": ("replay", "rt"),
     "lib": ("lib", "rt"),
     "example": ("example", "rt cc"),
     "host": ("host", "rt cargo cc"),
@@ -35,8 +36,8 @@ NEEDED = {
     "soak": ("soak", "rt cargo cc"),
     "install": ("install", "rt"),
 }
-# It writes the files that rt writes. HOLD, VERDICT and STATUS: which check waits until the file `go` is there, what is said of a
-# crate, how rt ends.
+# It writes the files that rt writes. HOLD, VERDICT, PROGRAM and STATUS: which check waits until the file `go` is there, what is said
+# of a crate, what the program does that a check builds, how rt ends.
 RT = """#!/bin/sh
 check() { # FILE WORDS
     : >"target/$1"
@@ -53,6 +54,7 @@ for crate in "$@"; do check "log/$crate.say" "$crate ${VERDICT:-proved (0 s)}"; 
 case $command in
 ci) check must-fail/ntp5/wrong.out "must-fail ntp5/wrong: refused, as it must be (0 s)" ;;
 staticlib) date +%N >target/staticlib/libntp5.a ;;
+check) [ -z "${PROGRAM:-}" ] || { mkdir -p target/bin; echo "$PROGRAM" >"target/bin/$1"; chmod +x "target/bin/$1"; } ;;
 esac
 exit "${STATUS:-0}"
 """
@@ -196,6 +198,34 @@ class Library(Repository):
         self.assertTrue(self.lib())
 
 
+class Replay(Repository):
+    def replay(self, program, *words, **given):
+        """Status and output of `make replay` with this program, without what is shown while rt works and what make says."""
+        status, printed = self.run_in("make", "replay", *words, PROGRAM=f"#!/bin/sh\n{program}", **given)
+        self.assertEqual(self.called(), ["check replay"])
+        return status != 0, re.sub(r"^(replay: .* done|make: \*\*\*).*\n", "", printed, flags=re.M)
+
+    def test_trace(self):
+        for words, name in (((), "examples/rack.trace"), (("TRACE=/a b.trace",), "/a b.trace"), (("TRACE=",), "")):
+            self.assertEqual(self.replay('echo "1 open 0 $# $1"', *words), (False, f"1 open 0 1 {name}\n"))
+
+    def test_status(self):
+        self.assertEqual(self.replay("echo 1 open 0; echo record 2: cut"), (True, "1 open 0\nrecord 2: cut\n"))
+        self.assertEqual(self.replay("echo none: no file >&2"), (True, "none: no file\n"))
+        self.assertEqual(self.replay("echo 1 open 0; exit 3"), (True, "1 open 0\nreplay: the program ended with status 3\n"))
+        failed, printed = self.replay("echo 1 open 0", STATUS="1")
+        self.assertTrue(failed and "1 open 0" not in printed, printed)
+
+    def test_program_is_gone(self):
+        """Its stamp, which has rt build nothing, stays only while the program is there."""
+        stamp = self.write("target/stamp/replay", "")
+        self.replay("true")
+        self.assertFalse(stamp.exists())
+        stamp.touch()
+        self.replay("true")
+        self.assertTrue(stamp.exists())
+
+
 def working_in(folder):
     """The processes whose working folder this is. One that has ended and was not waited for has none."""
     found = []
@@ -226,7 +256,7 @@ class Progress(Repository):
         self.held(3)
         status, printed = self.run_in("tools/progress", "gate", "ci", HOLD="must-fail/ntp5/wrong.out")
         self.assertEqual(status, 0)
-        self.assertRegex(printed, r"^gate: [0-2] of 8 done, 0:0\d: (octets|ntp5|ntp5/wrong)\ngate: 3 of 8 done, 0:\d\d\n$")
+        self.assertRegex(printed, r"^gate: [0-2] of 9 done, 0:0\d: (octets|ntp5|ntp5/wrong)\ngate: 3 of 9 done, 0:\d\d\n$")
         log = (self.top / "target/log/gate.log").read_text()
         self.assertEqual(log, "rt: octets proved (0 s)\nrt: ntp5 proved (0 s)\nrt: must-fail ntp5/wrong: refused, as it must be (0 s)\n")
         # What an earlier run left is not counted.

@@ -253,7 +253,7 @@ class Verdicts(unittest.TestCase):
     def test_right_ones(self):
         library = self.RIGHT.replace("sum", "target=x86_64-unknown-linux-gnu sum")
         program = self.RIGHT.replace("sum", "axioms=8 sum")
-        for crate, said in (("own", self.RIGHT), ("own", "fn own::f: proved\n" + library), ("cases", program)):
+        for crate, said in (("own", self.RIGHT), ("own", "fn own::f: proved\n" + library), ("cases", program), ("replay", program)):
             self.assertIsNone(verdicts.fault(crate, said))
 
     def test_wrong_ones(self):
@@ -262,7 +262,8 @@ class Verdicts(unittest.TestCase):
         for word in ("axioms=8", "foreign=own::f", "cache=trusted", "incremental=trusted", "pinned=no", "crate-checked=trusted"):
             self.assertEqual(verdicts.fault("own", f"{self.RIGHT} {word}"), f"the verdict has {word}")
         self.assertIn("not-proved", verdicts.fault("own", "logic=not-proved"))
-        self.assertIn("foreign", verdicts.fault("cases", self.RIGHT + " foreign=cases::f"))
+        for program in ("cases", "replay"):
+            self.assertIn("foreign", verdicts.fault(program, f"{self.RIGHT} foreign={program}::f"))
 
 
 if __name__ == "__main__":

@@ -37,6 +37,7 @@ static const struct row {
     {"ntp5_receive", call_receive, responses, 12000},
     {"ntp5_loop_verdict", call_loop_verdict, complete_filter, 440},
     {"ntp5_publish", call_publish, complete, 960},
+    {"ntp5_replay", call_replay, recorded, 12200},
     {"ntp5_store_clear", call_store_clear, any, SMALL},
     {"ntp5_report", call_report, stored, 100},
     {"ntp5_answer", call_answer, answerable, 12200},

@@ -12,8 +12,10 @@ enum { RECORDS = 64, WHOLE = 5 /* the input whose chunk is the whole filter */ }
 static uint64_t table[NTP5_TABLE_AT_MOST / sizeof(uint64_t)];
 static uint8_t store[RECORDS * NTP5_STORE_RECORD];
 static uint8_t datagram[NTP5_DATAGRAM_AT_MOST], out[NTP5_DATAGRAM_AT_MOST];
+static uint8_t record[NTP5_TRACE_HEAD + NTP5_DATAGRAM_AT_MOST]; /* a trace of one */
 static uint8_t filter[NTP5_FILTER_OCTETS], other[NTP5_FILTER_OCTETS], id[NTP5_ID_OCTETS], information[NTP5_INFORMATION_OCTETS];
-static size_t size, length;        /* of the table in numbers, of the datagram in octets */
+static size_t size;                  /* of the table, in numbers */
+static size_t length, record_length; /* of the datagram and of the record, in octets */
 static uint8_t edition = 7, association;
 static uint16_t chunk, selected;
 static uint64_t cookie;            /* the last one; the next is one more */
@@ -48,6 +50,13 @@ static void call_answer(void)
     ntp5_server server = {.stratum = 1, .poll = 6, .precision = -20};
     refusal = ntp5_answer(store, sizeof store, edition, datagram, length, 5, 6, ++cookie, server, filter, sizeof filter,
                           information, sizeof information, out, sizeof out).refusal;
+}
+
+/* A record that is wrong, which none is to be, has made no call: it counts as refused. */
+static void call_replay(void)
+{
+    ntp5_replayed r = ntp5_replay(table, size, record, record_length, 0, out, sizeof out);
+    refusal = r.state == NTP5_TRACE_CALL ? r.refusal : UINT8_MAX;
 }
 
 /* A request that wants an interleaved answer, and has the oldest cookie of a full store. */
@@ -243,6 +252,51 @@ static const char *responses(size_t n)
     make(call_receive);
     make_response();
     return n == CHAINS + 1 ? "an interleaved answer" : NULL;
+}
+
+/* A record of this kind and data for association 0; its time is not 0, as sent and receive need it. */
+static void make_record(uint8_t kind, const void *data, size_t data_length)
+{
+    uint8_t head[NTP5_TRACE_HEAD] = {0x4E, 0x35, kind, 0, (uint8_t)(data_length >> 8), (uint8_t)data_length, [NTP5_TRACE_HEAD - 1] = 9};
+    memcpy(record, head, sizeof head);
+    memcpy(record + sizeof head, data, data_length);
+    record_length = sizeof head + data_length;
+}
+
+/* The records of the other kinds. Each is made where its call is accepted. */
+static const char *other_record(size_t n)
+{
+    const uint8_t opening[4] = {edition, 0, 2, 0}, polling[10] = {0xFF, 1, 2, 3, 4, 5, 6, 7, 6, 1};
+    switch (n) {
+    case 0:
+        closed(WHOLE);
+        make_record(NTP5_KIND_OPEN, opening, sizeof opening);
+        return "an open";
+    case 1:
+        opened(WHOLE);
+        make_record(NTP5_KIND_POLL, polling, sizeof polling);
+        return "a poll";
+    case 2:
+        polled(WHOLE);
+        make_record(NTP5_KIND_SENT, "", 0);
+        return "a sent";
+    case 3:
+        opened(WHOLE);
+        make_record(NTP5_KIND_CLOSE, "", 0);
+        return "a close";
+    default:
+        return NULL;
+    }
+}
+
+/* Receives of the responses above, and then the other records. */
+static const char *recorded(size_t n)
+{
+    const char *name = responses(n);
+    if (name == NULL)
+        return other_record(n - CHAINS - 2);
+    make_record(NTP5_KIND_RECEIVE, datagram, length);
+    return name;
 }
 
 #endif

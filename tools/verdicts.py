@@ -4,8 +4,9 @@
 usage: verdicts.py [CRATE...]       without a crate: all of crates.txt
 
 A verdict may rest on the kit's logic and libraries as they are built, and on the crates below, proved in the same run; not on
-a cache, on another logic or on C functions of our own. The program `cases` may besides rest on the contracts that the kit
-assumes of C functions (`axioms=`): it opens files. The verdict on a library for C names those of its whole graph.
+a cache, on another logic or on C functions of our own. The programs `cases` and `replay` may besides rest on the contracts that
+the kit assumes of C functions (`axioms=`): they read their arguments and open files. The verdict on a library for C names those of
+its whole graph.
 """
 import pathlib
 import re
@@ -14,7 +15,7 @@ import sys
 TOP = pathlib.Path(__file__).resolve().parent.parent
 ALLOWED = re.compile(r"logic=proved|functions=\d+|target=x86_64-unknown-linux-gnu|sum=[0-9a-f]+|native=nat,char,string"
                      r"|logic-built=trusted|libraries-built=trusted")
-PROGRAM = "cases"
+PROGRAMS = {"cases", "replay"}
 
 
 def fault(crate, said):
@@ -22,7 +23,7 @@ def fault(crate, said):
     verdicts = [line.split() for line in said.splitlines() if line.startswith("logic=")]
     if len(verdicts) != 1:
         return f"{len(verdicts)} verdicts"
-    words = [word for word in verdicts[0] if not (crate == PROGRAM and re.fullmatch(r"axioms=\d+", word))]
+    words = [word for word in verdicts[0] if not (crate in PROGRAMS and re.fullmatch(r"axioms=\d+", word))]
     rests = [word for word in words if not ALLOWED.fullmatch(word)]
     if rests or "logic=proved" not in words:
         return "the verdict has " + (" ".join(rests) or "no logic=proved")

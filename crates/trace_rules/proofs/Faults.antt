@@ -28,15 +28,6 @@ pub record Faultless (kind size : ℕ) (s : List ℕ) : Type 0 where
   pub is-size : size ≡ dataSize kind size
   pub is-mode : wrongMode kind s ≡ false
 
-pub at-call : (kind size : ℕ) (s : List ℕ) → num s 2 1 ≡ kind → num s 4 2 ≡ size → Faultless kind size s
-    → foundIn s ≡ Call (recordIn kind size s)
-unfolding foundIn
-at-call kind size s k n g =
-    let r = g .room in
-    let some : length s ≡ 0 → ⊥ = λ z. omega arith in
-    let head : headSize ≤ length s = omega arith in
-    rw (ne-eqb _ _ some, le-ltb _ _ head, eq-eqb _ _ (g .marked), k, n, g .is-kind, eq-eqb _ _ (g .is-size), le-ltb _ _ r, g .is-mode)
-
 recordFound : Found → Record → Record
 recordFound (Call r) q = r
 recordFound End q = q
@@ -63,7 +54,7 @@ found-call s r =
     by-test P (not (eqb (num s 0 2) mark)) (λ v q. absurd (wrong-no-call q)) (λ v.
     by-test P (not (isKind kind)) (λ w q. absurd (wrong-no-call q)) (λ w.
     by-test P (not (eqb size (dataSize kind size))) (λ x q. absurd (wrong-no-call q)) (λ x.
-    by-test P (ltb (length s) (headSize + size)) (λ y q. absurd (wrong-no-call q)) (λ y.
+    by-test P _ (λ y q. absurd (wrong-no-call q)) (λ y.
     by-test P (wrongMode kind s) (λ z q. absurd (wrong-no-call q)) (λ z q.
     record {
       faultless = record {
@@ -92,3 +83,13 @@ call-room s r e =
     let g = c .faultless in
     let n : r .size ≡ num s 4 2 = ap (λ (x : Record). x .size) (c .is-record) in
     omega (arith, g .room)
+
+-- the other way round
+pub at-call : (kind size : ℕ) (s : List ℕ) → num s 2 1 ≡ kind → num s 4 2 ≡ size → Faultless kind size s
+    → foundIn s ≡ Call (recordIn kind size s)
+unfolding foundIn
+at-call kind size s k n g =
+    let r = g .room in
+    let some : length s ≡ 0 → ⊥ = λ z. omega arith in
+    let head : headSize ≤ length s = omega arith in
+    rw (ne-eqb _ _ some, le-ltb _ _ head, eq-eqb _ _ (g .marked), k, n, g .is-kind, eq-eqb _ _ (g .is-size), le-ltb _ _ r, g .is-mode)

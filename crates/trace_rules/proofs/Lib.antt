@@ -6,3 +6,4 @@ pub mod Listings
 pub mod Sounds
 pub mod Replays
 pub mod Demand3
+pub mod Computed

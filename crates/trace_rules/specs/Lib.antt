@@ -4,3 +4,4 @@ pub mod Written
 pub mod Trace
 pub mod Replay
 pub mod Claim
+pub mod Worked
