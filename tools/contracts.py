@@ -51,6 +51,7 @@ EXEMPT = {
     "print/src/convert.rt:from_u32": ({headed("r", "x")}, WIDENED),
     "print/src/convert.rt:from_u8": ({headed("r", "x")}, WIDENED),
     "print/src/lib.rt:line": ({headed("r", "tt"), *map(unnamed, ("row", "values", "octets"))}, PRINTS),
+    "print/src/lib.rt:numbered": ({headed("r", "tt"), *map(unnamed, ("number", "row", "values", "octets"))}, PRINTS),
     "print/src/lib.rt:problem": ({headed("r", "tt"), *map(unnamed, ("number", "word", "problem"))}, PRINTS),
     "print/src/lib.rt:result": ({headed("r", "tt"), *map(unnamed, ("row", "refusal", "octets"))}, PRINTS),
     "queries/src/lib.rt:run": ({headed("r", "tt"), *map(unnamed, ("call", "row", "line", "table"))}, PRINTS),

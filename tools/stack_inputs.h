@@ -257,7 +257,8 @@ static const char *responses(size_t n)
 /* A record of this kind and data for association 0; its time is not 0, as sent and receive need it. */
 static void make_record(uint8_t kind, const void *data, size_t data_length)
 {
-    uint8_t head[NTP5_TRACE_HEAD] = {0x4E, 0x35, kind, 0, (uint8_t)(data_length >> 8), (uint8_t)data_length, [NTP5_TRACE_HEAD - 1] = 9};
+    uint8_t high = (uint8_t)(data_length >> 8), low = (uint8_t)data_length;
+    uint8_t head[NTP5_TRACE_HEAD] = {0x4E, 0x35, kind, 0, high, low, [NTP5_TRACE_HEAD - 1] = 9};
     memcpy(record, head, sizeof head);
     memcpy(record + sizeof head, data, data_length);
     record_length = sizeof head + data_length;

@@ -87,7 +87,7 @@ WrongRecord = (lend : ℕ → List ℕ) (s rest t : List ℕ) (f : Fault) → Oc
 
 -- DEMAND 3 OF A REPLAY
 
--- D-3: all that holds of a list of calls holds of those of a trace, reorderings too; and after a replay on a cleared table each filter octet
+-- D-3, W208-15: all that holds of a list of calls holds of those of a trace, reorderings too; and after a replay on a cleared table each filter octet
 -- of an open association is what the trace's own records and their answers say
 pub record Demand3Replayed (lend : ℕ → List ℕ) (trace t : List ℕ) : Type 0 where
   pub demand3 : client.Claim stepNumbers t (callsIn lend trace)

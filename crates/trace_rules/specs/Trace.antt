@@ -14,7 +14,7 @@ pub record Listing : Type 0 where
   pub calls : List (TaggedCall calls.Call)
   pub stop : Found
 
--- W208-9: a wrong record ends the trace
+-- W208-11: a wrong record ends the trace
 abbrev pub onFound : (n : ℕ) (lend : ℕ → List ℕ) (s : List ℕ) → Found → (List ℕ → Listing) → Listing
 onFound n lend s (Call r) rest =
     record { calls = record { tag = n; call = callIn (lend n) s r } ∷ rest (restAfter s r) .calls; stop = rest (restAfter s r) .stop }
