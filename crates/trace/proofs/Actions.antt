@@ -1,5 +1,5 @@
 -- The call of each kind, of numbers that were read. Assumes nothing.
-use mathlib.Core.Path.{_≡_, ap, _∙_}
+use mathlib.Core.Path.{_≡_}
 use mathlib.Core.Bool.{Bool, true, false, cond}
 use mathlib.Core.List.{List}
 use Prim.Native.Nat.{ℕ, _+_, _≤_}
@@ -12,9 +12,7 @@ use mir.Syntax.{w8}
 use mir.Val.{toZ}
 use Rattle.octets.specs.Number.{getAt}
 use Rattle.octets.proofs.Numbers.{got}
-use Rattle.header.specs.declared.ClientCookie.{ClientCookie}
 use Rattle.trace_rules.specs.Record.{headSize, dataSize, actionOf}
-use Rattle.trace_rules.specs.declared.Action.{Action}
 use Rattle.trace_rules.specs.declared.Action.the-variants.{Open, Poll, Sent, Receive, Close}
 
 -- a record of its size has the least that its kind has

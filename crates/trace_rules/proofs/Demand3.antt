@@ -1,6 +1,6 @@
 -- Demand 3 of a replay: the calls of a trace are of their types, and no two have one number. Assumes nothing.
-use mathlib.Core.Path.{_≡_, refl, sym, ap, _∙_, subst⁻¹}
-use mathlib.Core.List.{List, [], _∷_, _++_}
+use mathlib.Core.Path.{_≡_, refl, ap, _∙_}
+use mathlib.Core.List.{List, [], _∷_}
 use Prim.Native.Nat.{ℕ, zero, suc, _+_, _<_, _≤_, _^_}
 use native.Mathlib.Omega.{arith}
 use lib.ListN.{length}
@@ -12,17 +12,16 @@ use Rattle.client_rules.specs.Call.{Typed}
 use Rattle.client_rules.specs.Numbers.{filterOctet}
 use Rattle.client_rules.specs.Claim.{cleared}
 use Rattle.client_rules.proofs.Demand3.{demand3}
-use Rattle.trace_rules.specs.Record.{foundIn, dataIn, restAfter, callOf, callIn}
-use Rattle.trace_rules.specs.Written.{Entry, ActionFits, Fits}
+use Rattle.trace_rules.specs.Record.{foundIn, dataIn, restAfter, callOf}
+use Rattle.trace_rules.specs.Written.{ActionFits}
 use Rattle.trace_rules.specs.Trace.{onFound, listFor, listing, callsIn}
 use Rattle.trace_rules.specs.Replay.{Run}
-use Rattle.trace_rules.specs.Claim.{Demand3Replayed, ReplaysDemand3}
+use Rattle.trace_rules.specs.Claim.{ReplaysDemand3}
 use Rattle.trace_rules.specs.declared.Action.{Action}
 use Rattle.trace_rules.specs.declared.Action.the-variants.{Open, Poll, Sent, Receive, Close}
-use Rattle.trace_rules.specs.declared.Record.{Record}
 use Rattle.trace_rules.specs.declared.Found.{Found}
 use Rattle.trace_rules.specs.declared.Found.the-variants.{Call, End, Wrong}
-use Rattle.trace_rules.proofs.Recorded.{entryIn, found-recorded}
+use Rattle.trace_rules.proofs.Recorded.{found-recorded}
 use Rattle.trace_rules.proofs.Replays.{replays}
 
 typed : (out d : List ℕ) (a : ℕ) (action : Action) → Octets out → Octets d → a < 2 ^ 8 → ActionFits action → Typed (callOf out d a action)

@@ -1,28 +1,26 @@
 -- A record as it is written is found as its call, and a call that is found is a record as it is written. Assumes nothing.
-use mathlib.Core.Path.{_≡_, refl, sym, ap, _∙_}
+use mathlib.Core.Path.{_≡_, refl, ap, _∙_}
 use mathlib.Core.Bool.{Bool, true, false, cond}
-use mathlib.Core.List.{List, [], _∷_, _++_, append-assoc}
-use Prim.Native.Nat.{ℕ, _+_, _<_, _≤_, _^_}
+use mathlib.Core.List.{List, _++_, append-assoc}
+use Prim.Native.Nat.{ℕ, _+_, _<_, _^_}
 use native.Mathlib.Omega.{arith}
 use lib.Dec.{eqb, ltb}
-use lib.ListN.{length, take, drop, length-append}
-use lib.IntN.{ℤ}
+use lib.ListN.{length, length-append}
 use lib.Seq.{take-at, drop-at}
 use mir.Syntax.{w8}
-use mir.Val.{toZ, ofZ, SFits}
-use mir.Facts.{toZ-ofZ, ofZ-toZ, fits-ofZ, sfits-toZ}
-use Rattle.octets.specs.Number.{Octets, num, octets}
-use Rattle.octets.specs.Piece.{spelled, widthOf}
-use Rattle.octets.proofs.Numbers.{num-octets, num-lt}
+use mir.Val.{toZ, ofZ}
+use mir.Facts.{toZ-ofZ, fits-ofZ}
+use Rattle.octets.specs.Number.{num, octets}
+use Rattle.octets.specs.Piece.{spelled}
+use Rattle.octets.proofs.Numbers.{num-octets}
 use Rattle.octets.proofs.Parts.{drop-past}
-use Rattle.octets.proofs.Pieces.{spelled-read}
 use Rattle.trace_rules.specs.Record.{mark, headSize, isKind, dataSize, wrongMode, actionOf, foundIn, dataIn, restAfter}
 use Rattle.trace_rules.specs.Written.{Entry, kindOf, timeOf, dataOf, headPieces, entryData, entryOctets, ActionFits, Fits}
 use Rattle.trace_rules.specs.declared.Action.{Action}
 use Rattle.trace_rules.specs.declared.Action.the-variants.{Open, Poll, Sent, Receive, Close}
 use Rattle.trace_rules.specs.declared.Record.{Record}
 use Rattle.trace_rules.specs.declared.Found.the-variants.{Call}
-use Rattle.trace_rules.proofs.Faults.{recordIn, Faultless, at-call, Calls, found-call}
+use Rattle.trace_rules.proofs.Faults.{Faultless, at-call}
 
 -- ---- written and found
 

@@ -1,18 +1,17 @@
 -- A record that has its call, and what is known from it. Assumes nothing.
-use mathlib.Core.Path.{_≡_, refl, sym, ap, _∙_}
-use mathlib.Core.Bool.{Bool, true, false, cond, not, _&&_}
-use mathlib.Core.List.{List, []}
-use Prim.Native.Nat.{ℕ, _+_, _<_, _≤_}
+use mathlib.Core.Path.{_≡_, sym, ap}
+use mathlib.Core.Bool.{true, false, not}
+use mathlib.Core.List.{List}
+use Prim.Native.Nat.{ℕ, _+_, _≤_}
 use native.Mathlib.Omega.{arith}
 use borrow.Author.Tests.{le-ltb, ltb-false, eq-eqb, ne-eqb, eqb-true, not-false}
 use lib.Dec.{eqb, ltb}
 use lib.ListN.{length}
 use Rattle.octets.specs.Number.{num}
 use Rattle.octets.proofs.Tests.{by-test}
-use Rattle.trace_rules.specs.Record.{mark, headSize, isKind, dataSize, wrongMode, actionOf, recordOf, foundIn}
+use Rattle.trace_rules.specs.Record.{mark, headSize, isKind, dataSize, wrongMode, actionOf, foundIn}
 use Rattle.trace_rules.specs.declared.Record.{Record}
 use Rattle.trace_rules.specs.declared.Fault.{Fault}
-use Rattle.trace_rules.specs.declared.Fault.the-variants.{Mark, Kind, Length, Cut}
 use Rattle.trace_rules.specs.declared.Found.{Found}
 use Rattle.trace_rules.specs.declared.Found.the-variants.{Call, End, Wrong}
 

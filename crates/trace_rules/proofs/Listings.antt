@@ -1,18 +1,14 @@
 -- The calls that a trace is, record by record, and those of records as they are written. Assumes nothing.
-use mathlib.Core.Path.{_≡_, refl, sym, ap, _∙_, subst, subst⁻¹}
-use mathlib.Core.Bool.{Bool, true, false}
+use mathlib.Core.Path.{_≡_, refl, ap, _∙_}
 use mathlib.Core.List.{List, [], _∷_, _++_, append-assoc}
 use Prim.Native.Nat.{ℕ, zero, suc, _+_, _<_, _≤_}
 use native.Mathlib.Nat.{zero-add}
 use native.Mathlib.Omega.{arith}
-use borrow.Author.Tests.{eq-eqb, eqb-true}
-use lib.Dec.{eqb, ltb}
-use lib.ListN.{length, drop, length-drop}
-use Rattle.order.specs.Order.{TaggedCall}
-use Rattle.octets.proofs.Tests.{by-test}
+use borrow.Author.Tests.{eq-eqb}
+use lib.ListN.{length, length-drop}
 use Rattle.client_rules.specs.Call as calls
 use Rattle.trace_rules.specs.Record.{foundIn, dataIn, restAfter, callOf, callIn}
-use Rattle.trace_rules.specs.Written.{Entry, entryData, entryOctets, traceOctets, Fits, AllFit, callsOf}
+use Rattle.trace_rules.specs.Written.{Entry, entryData, entryOctets, traceOctets, Fits, callsOf}
 use Rattle.trace_rules.specs.Trace.{Listing, onFound, listFor, listing}
 use Rattle.trace_rules.specs.Claim.{RecordsRead}
 use Rattle.trace_rules.specs.declared.Action.{Action}

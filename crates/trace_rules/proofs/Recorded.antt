@@ -1,27 +1,26 @@
 -- A call that is found in a trace is a record as it is written, with the rest of the trace after it. Assumes nothing.
 use mathlib.Core.Path.{_≡_, refl, sym, ap, _∙_, subst⁻¹}
-use mathlib.Core.Bool.{Bool, true, false, cond, _&&_}
+use mathlib.Core.Bool.{true, false, cond}
 use mathlib.Core.List.{List, [], _∷_, _++_, append-assoc}
-use Prim.Native.Nat.{ℕ, zero, suc, _+_, _<_, _≤_, _^_}
+use Prim.Native.Nat.{ℕ, zero, suc, _+_, _≤_}
 use native.Mathlib.Omega.{arith}
 use borrow.Author.Tests.{ltb-false, lt-ltb, le-ltb}
 use lib.Dec.{eqb, ltb}
 use lib.ListN.{length, take, drop, take-append-drop, length-drop}
 use lib.Seq.{drop-drop, length-take-le}
 use mir.Syntax.{w8}
-use mir.Val.{toZ, ofZ, SFits}
+use mir.Val.{toZ, ofZ}
 use mir.Facts.{ofZ-toZ, sfits-toZ}
-use Rattle.octets.specs.Number.{Octets, num, octets}
+use Rattle.octets.specs.Number.{Octets, num}
 use Rattle.octets.specs.Piece.{spelled, piece, widthOf}
 use Rattle.octets.proofs.Numbers.{num-lt}
 use Rattle.octets.proofs.Pieces.{spelled-read}
 use Rattle.octets.proofs.Written.{take-octets, drop-octets}
-use Rattle.trace_rules.specs.Record.{mark, headSize, isKind, dataSize, wrongMode, actionOf, foundIn, dataIn, restAfter}
+use Rattle.trace_rules.specs.Record.{headSize, isKind, actionOf, foundIn, dataIn, restAfter}
 use Rattle.trace_rules.specs.Written.{Entry, kindOf, timeOf, dataOf, headPieces, entryData, entryOctets, ActionFits, Fits}
-use Rattle.trace_rules.specs.declared.Action.{Action}
 use Rattle.trace_rules.specs.declared.Record.{Record}
 use Rattle.trace_rules.specs.declared.Found.the-variants.{Call}
-use Rattle.trace_rules.proofs.Faults.{recordIn, Faultless, Calls, found-call}
+use Rattle.trace_rules.proofs.Faults.{recordIn, Faultless, found-call}
 
 data Kind : ℕ → Type 0 where
   open-kind : Kind 1

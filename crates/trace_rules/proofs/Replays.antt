@@ -7,17 +7,14 @@ use native.Mathlib.Omega.{arith}
 use lib.ListN.{length, drop}
 use lib.Seq.{drop-drop}
 use Rattle.octets.specs.Number.{Octets}
-use Rattle.order.specs.Order.{TaggedCall, after, answers}
+use Rattle.order.specs.Order.{after, answers}
 use Rattle.order.proofs.Simulate.{after-append}
-use Rattle.client_rules.specs.Call as calls
 use Rattle.client_rules.specs.Numbers.{stepNumbers}
 use Rattle.trace_rules.specs.Record.{headSize, foundIn, restAfter, callIn}
-use Rattle.trace_rules.specs.Written.{Entry, traceOctets, callsOf, AllFit}
+use Rattle.trace_rules.specs.Written.{Entry, traceOctets, callsOf}
 use Rattle.trace_rules.specs.Trace.{Listing, onFound, listFor, listing, callsIn, Sound}
-use Rattle.trace_rules.specs.Replay.{Run, onReplayed, replayFound, replayAt, replayFor, replay}
-use Rattle.trace_rules.specs.Claim.{Begins, Replays, madeDirectly, Joining, JoinedTraces, SoundJoined, WrongRecord}
-use Rattle.trace_rules.specs.declared.Record.{Record}
-use Rattle.trace_rules.specs.declared.Fault.{Fault}
+use Rattle.trace_rules.specs.Replay.{Run, onReplayed, replayAt, replayFor, replay}
+use Rattle.trace_rules.specs.Claim.{Begins, Replays, JoinedTraces, SoundJoined, WrongRecord}
 use Rattle.trace_rules.specs.declared.Found.{Found}
 use Rattle.trace_rules.specs.declared.Found.the-variants.{Call, End, Wrong}
 use Rattle.trace_rules.proofs.Faults.{end-no-call, wrong-no-call}

@@ -1,25 +1,24 @@
 -- Every trace is records as they are written, and then its end or a wrong record. Assumes nothing.
-use mathlib.Core.Path.{_≡_, refl, sym, ap, _∙_, subst⁻¹}
-use mathlib.Core.Bool.{Bool, true, false, not}
-use mathlib.Core.List.{List, [], _∷_, _++_, append-assoc, append-nil}
+use mathlib.Core.Path.{_≡_, refl, sym, ap, _∙_}
+use mathlib.Core.Bool.{not}
+use mathlib.Core.List.{List, [], _∷_, _++_, append-assoc}
 use Prim.Native.Nat.{ℕ, zero, suc, _+_, _≤_}
 use native.Mathlib.Omega.{arith}
 use borrow.Author.Tests.{eqb-true}
 use lib.Dec.{eqb, ltb}
-use lib.ListN.{length, drop}
+use lib.ListN.{length}
 use Rattle.octets.specs.Number.{Octets, num}
 use Rattle.octets.proofs.Tests.{by-test}
 use Rattle.octets.proofs.Written.{drop-octets}
-use Rattle.trace_rules.specs.Record.{mark, headSize, isKind, dataSize, wrongMode, recordOf, foundIn, restAfter}
-use Rattle.trace_rules.specs.Written.{Entry, entryOctets, traceOctets, AllFit}
+use Rattle.trace_rules.specs.Record.{mark, headSize, isKind, dataSize, wrongMode, foundIn, restAfter}
+use Rattle.trace_rules.specs.Written.{entryOctets, traceOctets}
 use Rattle.trace_rules.specs.Trace.{Listing, onFound, listFor, listing, Sound}
 use Rattle.trace_rules.specs.Claim.{Begins, SoundTraces, OtherTraces}
 use Rattle.trace_rules.specs.declared.Record.{Record}
 use Rattle.trace_rules.specs.declared.Fault.{Fault}
-use Rattle.trace_rules.specs.declared.Fault.the-variants.{Mark, Kind, Length, Cut}
 use Rattle.trace_rules.specs.declared.Found.{Found}
 use Rattle.trace_rules.specs.declared.Found.the-variants.{Call, End, Wrong}
-use Rattle.trace_rules.proofs.Faults.{found-call, end-no-call, wrong-no-call}
+use Rattle.trace_rules.proofs.Faults.{end-no-call, wrong-no-call}
 use Rattle.trace_rules.proofs.Recorded.{entryIn, found-recorded}
 use Rattle.trace_rules.proofs.Listings.{at-end, shorter, listing-none, records-read}
 

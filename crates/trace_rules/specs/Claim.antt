@@ -15,9 +15,8 @@ use Rattle.trace_rules.specs.Record.{foundIn}
 use Rattle.trace_rules.specs.Written.{Entry, traceOctets, AllFit, callsOf}
 use Rattle.trace_rules.specs.Trace.{listing, callsIn, Sound}
 use Rattle.trace_rules.specs.Replay.{Run, replay}
-use Rattle.trace_rules.specs.declared.Record.{Record}
 use Rattle.trace_rules.specs.declared.Fault.{Fault}
-use Rattle.trace_rules.specs.declared.Found.the-variants.{Call, End, Wrong}
+use Rattle.trace_rules.specs.declared.Found.the-variants.{Wrong}
 
 -- WRITTEN AND READ
 

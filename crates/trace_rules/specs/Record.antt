@@ -1,7 +1,7 @@
 -- A record of a trace, W208-1 to W208-6: what is found at the start of a trace, and the call that it is.
-use mathlib.Core.Bool.{Bool, cond, not, _&&_, _||_}
+use mathlib.Core.Bool.{Bool, cond, not, _&&_}
 use mathlib.Core.List.{List}
-use Prim.Native.Nat.{ℕ, _+_, _-_}
+use Prim.Native.Nat.{ℕ, _+_}
 use lib.Dec.{eqb, ltb}
 use lib.ListN.{length, take, drop}
 use mir.Syntax.{w8}
@@ -12,7 +12,6 @@ use Rattle.client_rules.specs.Call.{Answer}
 use Rattle.trace_rules.specs.declared.Action.{Action}
 use Rattle.trace_rules.specs.declared.Action.the-variants.{Open, Poll, Sent, Receive, Close}
 use Rattle.trace_rules.specs.declared.Record.{Record}
-use Rattle.trace_rules.specs.declared.Fault.{Fault}
 use Rattle.trace_rules.specs.declared.Fault.the-variants.{Mark, Kind, Length, Cut}
 use Rattle.trace_rules.specs.declared.Found.{Found}
 use Rattle.trace_rules.specs.declared.Found.the-variants.{Call, End, Wrong}

@@ -1,5 +1,5 @@
 -- A record as it is written, W208-1 to W208-5, and the octets of a row of them.
-use mathlib.Core.Bool.{Bool, cond}
+use mathlib.Core.Bool.{cond}
 use mathlib.Core.List.{List, [], _∷_, _++_}
 use Prim.Native.Nat.{ℕ, suc, _<_, _^_}
 use lib.ListN.{length}

@@ -1,12 +1,10 @@
 -- `read` meets its contract: at each `return` the tests that led there say what is found. Assumes nothing.
-use mathlib.Core.Path.{_≡_, sym, ap, _∙_}
-use Prim.Native.Nat.{ℕ, _≤_}
+use mathlib.Core.Path.{_≡_}
 use native.Mathlib.Omega.{arith}
 use borrow.Author.Tests.{lt-ltb, le-ltb, eq-eqb, ne-eqb}
-use lib.ListN.{length}
 use Rattle.octets.specs.Number.{num}
 use Rattle.octets.proofs.Numbers.{got}
-use Rattle.trace_rules.specs.Record.{mark, foundIn, recordOf}
+use Rattle.trace_rules.specs.Record.{foundIn}
 use borrow.Author.Needs.{needs}
 use Rattle.trace.proofs.read.Statement.{statement}
 use Rattle.trace.proofs.read.Tie as tie

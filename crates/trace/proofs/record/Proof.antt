@@ -1,13 +1,11 @@
 -- `record` meets its contract: at each `return` the tests that led there say what is found. Assumes nothing.
-use mathlib.Core.Path.{_≡_, sym, ap, _∙_}
-use mathlib.Core.Bool.{true, false}
-use Prim.Native.Nat.{ℕ, _+_, _≤_, _<_}
+use mathlib.Core.Path.{_≡_, sym, _∙_}
+use Prim.Native.Nat.{_+_, _≤_, _<_}
 use native.Mathlib.Omega.{arith}
 use borrow.Author.Tests.{lt-ltb, le-ltb, eq-eqb, ne-eqb}
-use lib.Dec.{eqb, ltb}
 use lib.ListN.{length}
 use Rattle.octets.proofs.Numbers.{got}
-use Rattle.trace_rules.specs.Record.{headSize, isKind, dataSize}
+use Rattle.trace_rules.specs.Record.{headSize, dataSize}
 use Rattle.trace.proofs.Actions.{least-room}
 use borrow.Author.Needs.{needs}
 use Rattle.trace.proofs.record.Statement.{statement}
