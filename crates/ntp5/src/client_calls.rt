@@ -83,7 +83,9 @@ pub extern "C" fn ntp5_receive(
 ) -> Received
     ensures { λ r. ⌜ (receivedNumbers r, now (table .exit)) ≡ stepNumbers (receive association (now (datagram .entry)) t4) (now (table .entry)) ⌝ }
 {
-    let received = client::receive(table, association, datagram, t4);
+    // The whole datagram, taken apart here: two exports use this one, and the compiler then hands it its address and its length, and not
+    // a reference to both, on which the processor would wait.
+    let received = client::receive(table, association, &datagram[0..], t4);
     answers::of_received(received)
 }
 
