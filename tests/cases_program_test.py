@@ -9,8 +9,10 @@ import resource
 import subprocess
 import sys
 import tempfile
+from random import Random
 
 sys.dont_write_bytecode = True      # no generated folder beside the sources
+from cases_model import CALLS, calls_of      # noqa: E402
 from program_checks import Checks as ProgramChecks, arguments, standard_input       # noqa: E402
 
 TOP = pathlib.Path(__file__).resolve().parent.parent
@@ -51,6 +53,14 @@ def recipe(checks):
     checks.recipe("a read that fails at the end", checks.whole, False, program=failing)
 
 
+def long_lines(checks):
+    """Result lines about as long as the 4,096 octets that are written at a time, and about twice as long."""
+    random = Random(208)
+    lines = "".join(f"add {random.randbytes(size).hex()} {'00' * 15}\n" for size in (*range(2040, 2053), 4090, 4096)).encode()
+    expected = "".join(f"{name} {CALLS[name][1](*values)}\n" for _, (name, values), _ in calls_of(lines))
+    checks.run("long result lines", [checks.file("long", lines)], expected, "")
+
+
 def main():
     program = os.path.abspath(sys.argv[1] if len(sys.argv) > 1 else TOP / "target" / "bin" / "cases")
     with tempfile.TemporaryDirectory() as folder:
@@ -58,6 +68,7 @@ def main():
         arguments(checks)
         standard_input(checks, b"measure 1 1 1 1", "line")
         recipe(checks)
+        long_lines(checks)
     return checks.told("cases_program_test")
 
 

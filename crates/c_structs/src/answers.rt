@@ -7,6 +7,7 @@ use responder_rules::Answered;
 ghost use mathlib.Core.Path.{_≡_};
 ghost use mathlib.Core.List.{[]};
 ghost use Rattle.filter_weight.specs.Weighing.{numbers};
+ghost use Rattle.client_rules.specs.Call.{plainAnswer};
 ghost use Rattle.client.specs.Answers.{isInterleaved, polledAnswer, publishedAnswer, receivedAnswer, verdictAnswerOf};
 ghost use Rattle.responder_rules.specs.Answer.{outcome};
 ghost use Rattle.c_structs.specs.Numbers.{writtenNumbers, receivedNumbers, verdictNumbers, outcomeNumbers, weightNumbers, measurementNumbers};
@@ -90,6 +91,19 @@ pub fn of_answered(answered: Answered) -> Written
     }
 }
 
+// N-27: a number and zeros.
+pub fn of_refusal(refusal: u8) -> Received
+    ensures { λ r. ⌜ receivedNumbers r ≡ plainAnswer refusal [] ⌝ }
+{
+    Received {
+        refusal,
+        judgement: 0,
+        chunk: 0,
+        offset: 0,
+        delay: 0,
+    }
+}
+
 pub fn of_received(received: client::Received) -> Received
     ensures { λ r. ⌜ receivedNumbers r ≡ receivedAnswer received ⌝ }
 {
@@ -101,13 +115,7 @@ pub fn of_received(received: client::Received) -> Received
             offset: measured.offset,
             delay: measured.delay,
         },
-        client::Received::Refused(refusal) => Received {
-            refusal,
-            judgement: 0,
-            chunk: 0,
-            offset: 0,
-            delay: 0,
-        },
+        client::Received::Refused(refusal) => of_refusal(refusal),
     }
 }
 

@@ -1,12 +1,12 @@
 // A replayed record of a trace, as C is given it.
 use crate::answers::Received;
+use crate::answers::of_refusal;
 use trace_rules::Action;
 use trace_rules::Fault;
 use trace_rules::Found;
 use trace_rules::Record;
 ghost use mathlib.Core.Path.{_≡_};
 ghost use mathlib.Core.List.{[]};
-ghost use Rattle.client_rules.specs.Call.{plainAnswer};
 ghost use Rattle.trace_rules.specs.Written.{kindOf};
 ghost use Rattle.trace_rules.specs.Replay.{notMade};
 ghost use Rattle.c_structs.specs.Numbers.{receivedNumbers};
@@ -69,7 +69,7 @@ pub fn of_made(record: Record, next: usize, answered: Received, length: u16) -> 
     }
 }
 
-// A place where no call is made.
+// A place where no call is made. That of a call is asked for by nobody: it is there so that the function is total.
 pub fn not_made(found: Found, at: usize) -> Replayed
     ensures { λ r. ⌜ r ≡ replayedNumbers (notMade found at [] []) ⌝ }
 {
@@ -92,19 +92,6 @@ fn stopped(state: u8, at: usize) -> Replayed
         judgement: 0,
         chunk: 0,
         length: 0,
-        offset: 0,
-        delay: 0,
-    }
-}
-
-// The answer of a call that has no other numbers.
-pub fn of_refusal(refusal: u8) -> Received
-    ensures { λ r. ⌜ receivedNumbers r ≡ plainAnswer refusal [] ⌝ }
-{
-    Received {
-        refusal,
-        judgement: 0,
-        chunk: 0,
         offset: 0,
         delay: 0,
     }

@@ -9,7 +9,7 @@ use lib.ListN.{length, drop, length-drop}
 use types.Run.{OneOf}
 use Rattle.client_rules.specs.Call.{Answer}
 use Rattle.client_rules.specs.Numbers.{stepNumbers}
-use Rattle.trace_rules.specs.Record.{headSize, foundIn, dataIn, callOf, lentAfter}
+use Rattle.trace_rules.specs.Record.{headLength, foundIn, dataIn, actionCall, lentAfter}
 use Rattle.trace_rules.specs.Replay.{notMade, madeBy, replayFound, replayAt}
 use Rattle.trace_rules.specs.declared.Action.{Action}
 use Rattle.trace_rules.specs.declared.Record.{Record}
@@ -28,11 +28,11 @@ module _ (f : Record) (d : List ℕ) (next : ℕ) (out t : List ℕ) where
   -- as if its action were this one
   abbrev madeAs : Action → Left
   madeAs action =
-      let s = stepNumbers (callOf out d (f .association) action) t in
+      let s = stepNumbers (actionCall out d (f .association) action) t in
       (madeNumbers f next (s .0) (s .0 .size), lentAfter out action (s .0), s .1)
 
   pub made : (action : Action) (r : Replayed) (w : Answer) (left : List ℕ) → f .action ≡ action → r ≡ madeNumbers f next w (w .size)
-      → _≡_ {A = Answer × List ℕ} (w, left) (stepNumbers (callOf out d (f .association) action) t)
+      → _≡_ {A = Answer × List ℕ} (w, left) (stepNumbers (actionCall out d (f .association) action) t)
       → _≡_ {A = Left} (r, lentAfter out action w, left) (replayLeft (madeBy f d next out t))
   made action r w left e n m =
       ap (λ (x : Replayed). (x, lentAfter out action w, left)) n
@@ -41,7 +41,7 @@ module _ (f : Record) (d : List ℕ) (next : ℕ) (out t : List ℕ) where
 
 module _ (trace : List ℕ) (at : ℕ) (out t : List ℕ) where
   pub call-made : (r : Record) (w : Left) → foundIn (drop at trace) ≡ Call r
-      → w ≡ replayLeft (madeBy r (dataIn (drop at trace) r) (at + (headSize + r .size)) out t) → w ≡ replayLeft (replayAt trace at out t)
+      → w ≡ replayLeft (madeBy r (dataIn (drop at trace) r) (at + (headLength + r .size)) out t) → w ≡ replayLeft (replayAt trace at out t)
   unfolding replayAt
   call-made r w e m = m ∙ sym (ap (λ (f : Found). replayLeft (replayFound (drop at trace) f at out t)) e)
 

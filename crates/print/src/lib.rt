@@ -32,7 +32,7 @@ fn octet(out: &mut [u8], at: usize, x: u8) -> usize {
     std::num::wrapping_add_usize(place, 1)
 }
 
-fn octets_of(out: &mut [u8], at: usize, s: &[u8]) -> usize {
+fn append(out: &mut [u8], at: usize, s: &[u8]) -> usize {
     let mut place = at;
     let mut i: usize = 0;
     while i < s.len() {
@@ -45,13 +45,13 @@ fn octets_of(out: &mut [u8], at: usize, s: &[u8]) -> usize {
 fn decimal(out: &mut [u8], at: usize, x: u64) -> usize {
     let mut digits = [0u8; 20];
     let n = io::decimal(x, &mut digits);
-    octets_of(out, at, &digits[..n])
+    append(out, at, &digits[..n])
 }
 
 fn hexadecimal(out: &mut [u8], at: usize, x: u64, width: usize) -> usize {
     let mut digits = [0u8; 16];
     let n = io::hex(x, width, &mut digits);
-    octets_of(out, at, &digits[..n])
+    append(out, at, &digits[..n])
 }
 
 // The two hexadecimal digits of an octet.
@@ -134,9 +134,9 @@ fn put(out: &mut [u8], at: usize, word: &[u8], x: u64, octets: &[u8]) -> usize {
     }
     let mark = find(word, 0, b'%', true);
     let mut next = octet(out, at, b' ');
-    next = octets_of(out, next, part(word, 0, mark));
+    next = append(out, next, part(word, 0, mark));
     next = value(out, next, get8(word, mark + 1), x, octets);
-    octets_of(out, next, rest(word, mark + 2))
+    append(out, next, rest(word, mark + 2))
 }
 
 // Whether further words may follow this one with this value.
@@ -147,7 +147,7 @@ fn goes_on(word: &[u8], x: u64) -> bool {
 
 // The row with these values, one for each word of its form, and octets.
 fn form(out: &mut [u8], at: usize, row: &[u8], values: &[u64], octets: &[u8]) -> usize {
-    let mut next = octets_of(out, at, piece(row, 0, b' '));
+    let mut next = append(out, at, piece(row, 0, b' '));
     let mut k: usize = 0;
     let mut more = true;
     while k < values.len() && more {

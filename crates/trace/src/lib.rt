@@ -11,7 +11,7 @@ use trace_rules::Record;
 ghost use mathlib.Core.Path.{_≡_};
 ghost use Prim.Native.Nat.{_+_, _≤_};
 ghost use lib.ListN.{length};
-ghost use Rattle.trace_rules.specs.Record.{headSize, dataSize, wrongMode, actionOf, recordOf, foundIn};
+ghost use Rattle.trace_rules.specs.Record.{headLength, dataSize, wrongMode, actionOf, foundOfKind, foundIn};
 
 // W208-2: the octets before the data.
 pub const HEAD: usize = 14;
@@ -33,7 +33,7 @@ fn data_size(kind: u8, size: usize) -> usize
 
 // W208-4.
 fn wrong_mode(kind: u8, s: &[u8]) -> bool
-    requires { ⌜ headSize + dataSize kind 0 ≤ length (now s) ⌝ }
+    requires { ⌜ headLength + dataSize kind 0 ≤ length (now s) ⌝ }
     ensures { λ r. ⌜ r ≡ wrongMode kind (now (s .entry)) ⌝ }
 {
     if kind == 2 {
@@ -44,7 +44,7 @@ fn wrong_mode(kind: u8, s: &[u8]) -> bool
 
 // W208-4, W208-5.
 fn action(kind: u8, s: &[u8]) -> Action
-    requires { ⌜ headSize + dataSize kind 0 ≤ length (now s) ⌝ }
+    requires { ⌜ headLength + dataSize kind 0 ≤ length (now s) ⌝ }
     ensures { λ r. ⌜ r ≡ actionOf kind (now (s .entry)) ⌝ }
 {
     match kind {
@@ -62,8 +62,8 @@ fn action(kind: u8, s: &[u8]) -> Action
 
 // W208-6, W208-7: the first fault of a record whose head is there and has the mark, or its call.
 fn record(kind: u8, size: usize, s: &[u8]) -> Found
-    requires { ⌜ headSize ≤ length (now s) ⌝ }
-    ensures { λ r. ⌜ r ≡ recordOf kind size (now (s .entry)) ⌝ }
+    requires { ⌜ headLength ≤ length (now s) ⌝ }
+    ensures { λ r. ⌜ r ≡ foundOfKind kind size (now (s .entry)) ⌝ }
 {
     if !((0 < kind) & (kind < 6)) {
         return Found::Wrong(Fault::Kind);

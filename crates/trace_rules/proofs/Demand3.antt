@@ -12,7 +12,7 @@ use Rattle.client_rules.specs.Call.{Typed}
 use Rattle.client_rules.specs.Numbers.{filterOctet}
 use Rattle.client_rules.specs.Claim.{cleared}
 use Rattle.client_rules.proofs.Demand3.{demand3}
-use Rattle.trace_rules.specs.Record.{foundIn, dataIn, restAfter, callOf}
+use Rattle.trace_rules.specs.Record.{foundIn, dataIn, restAfter, actionCall}
 use Rattle.trace_rules.specs.Written.{ActionFits}
 use Rattle.trace_rules.specs.Trace.{onFound, listFor, listing, callsIn}
 use Rattle.trace_rules.specs.Replay.{Run}
@@ -24,7 +24,7 @@ use Rattle.trace_rules.specs.declared.Found.the-variants.{Call, End, Wro
 use Rattle.trace_rules.proofs.Recorded.{found-recorded}
 use Rattle.trace_rules.proofs.Replays.{replays}
 
-typed : (out d : List ℕ) (a : ℕ) (action : Action) → Octets out → Octets d → a < 2 ^ 8 → ActionFits action → Typed (callOf out d a action)
+typed : (out d : List ℕ) (a : ℕ) (action : Action) → Octets out → Octets d → a < 2 ^ 8 → ActionFits action → Typed (actionCall out d a action)
 typed out d a (Open edition timescale c) o b l f = (l, f .0, f .1, f .2)
 typed out d a (Poll cookie exponent interleaved) o b l f = (l, f .0, f .1, o)
 typed out d a (Sent t1) o b l f = (l, f)

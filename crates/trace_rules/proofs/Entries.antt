@@ -14,8 +14,8 @@ use Rattle.octets.specs.Number.{num, octets}
 use Rattle.octets.specs.Piece.{spelled}
 use Rattle.octets.proofs.Numbers.{num-octets}
 use Rattle.octets.proofs.Parts.{drop-past}
-use Rattle.trace_rules.specs.Record.{mark, headSize, isKind, dataSize, wrongMode, actionOf, foundIn, dataIn, restAfter}
-use Rattle.trace_rules.specs.Written.{Entry, kindOf, timeOf, dataOf, headPieces, entryData, entryOctets, ActionFits, Fits}
+use Rattle.trace_rules.specs.Record.{mark, headLength, isKind, dataSize, wrongMode, actionOf, foundIn, dataIn, restAfter}
+use Rattle.trace_rules.specs.Written.{Entry, kindOf, timeField, dataOf, headPieces, entryData, entryOctets, ActionFits, EntryFits}
 use Rattle.trace_rules.specs.declared.Action.{Action}
 use Rattle.trace_rules.specs.declared.Action.the-variants.{Open, Poll, Sent, Receive, Close}
 use Rattle.trace_rules.specs.declared.Record.{Record}
@@ -31,7 +31,7 @@ kind-small (Sent t1) = omega arith
 kind-small (Receive t4) = omega arith
 kind-small Close = omega arith
 
-time-small : (time : ℕ) (action : Action) → time < 2 ^ 64 → ActionFits action → timeOf time action < 256 ^ 8
+time-small : (time : ℕ) (action : Action) → time < 2 ^ 64 → ActionFits action → timeField time action < 256 ^ 8
 time-small time (Open edition timescale c) t f = t
 time-small time (Poll cookie exponent interleaved) t f = t
 time-small time (Sent t1) t f = f
@@ -43,7 +43,7 @@ module _ (a time size : ℕ) (action : Action) (q : List ℕ) where
   abbrev headed : List ℕ
   headed = spelled (headPieces a time size action) ++ q
 
-  pub length-headed : length headed ≡ headSize + length q
+  pub length-headed : length headed ≡ headLength + length q
   unfolding spelled octets
   length-headed = omega arith
 
@@ -63,9 +63,9 @@ module _ (a time size : ℕ) (action : Action) (q : List ℕ) where
   unfolding spelled octets num
   head-size h = num-octets 2 size h
 
-  pub head-time : timeOf time action < 256 ^ 8 → num headed 6 8 ≡ timeOf time action
+  pub head-time : timeField time action < 256 ^ 8 → num headed 6 8 ≡ timeField time action
   unfolding spelled octets num
-  head-time h = num-octets 8 (timeOf time action) h
+  head-time h = num-octets 8 (timeField time action) h
 
 mode-back : (b : Bool) → eqb (cond b 1 0) 1 ≡ b
 mode-back true = refl
@@ -130,7 +130,7 @@ is-mode a time d Close u = refl
 abbrev pub entryRecord : Entry → Record
 entryRecord e = record { association = e .association; action = e .action; size = length (entryData e) }
 
-module _ (e : Entry) (f : Fits e) (u : List ℕ) where
+module _ (e : Entry) (f : EntryFits e) (u : List ℕ) where
   abbrev own : List ℕ
   own = entryData e
 
@@ -177,5 +177,5 @@ module _ (e : Entry) (f : Fits e) (u : List ℕ) where
   unfolding spelled octets
   entry-rest =
       ap (λ (s : List ℕ). restAfter s (entryRecord e)) entry-after
-      ∙ drop-past (spelled (headPieces (e .association) (e .time) (length own) (e .action))) (own ++ u) headSize (length own) refl
+      ∙ drop-past (spelled (headPieces (e .association) (e .time) (length own) (e .action))) (own ++ u) headLength (length own) refl
       ∙ drop-at own u (length own) refl

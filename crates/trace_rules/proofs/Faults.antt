@@ -9,7 +9,7 @@ use lib.Dec.{eqb, ltb}
 use lib.ListN.{length}
 use Rattle.octets.specs.Number.{num}
 use Rattle.octets.proofs.Tests.{by-test}
-use Rattle.trace_rules.specs.Record.{mark, headSize, isKind, dataSize, wrongMode, actionOf, foundIn}
+use Rattle.trace_rules.specs.Record.{mark, headLength, isKind, dataSize, wrongMode, actionOf, foundIn}
 use Rattle.trace_rules.specs.declared.Record.{Record}
 use Rattle.trace_rules.specs.declared.Fault.{Fault}
 use Rattle.trace_rules.specs.declared.Found.{Found}
@@ -21,7 +21,7 @@ recordIn kind size s = record { association = num s 3 1; action = actionOf kind 
 
 -- none of the faults
 pub record Faultless (kind size : ℕ) (s : List ℕ) : Type 0 where
-  pub room : headSize + size ≤ length s
+  pub room : headLength + size ≤ length s
   pub marked : num s 0 2 ≡ mark
   pub is-kind : isKind kind ≡ true
   pub is-size : size ≡ dataSize kind size
@@ -49,7 +49,7 @@ pub found-call : (s : List ℕ) (r : Record) → foundIn s ≡ Call r → Calls 
 unfolding foundIn recordFound
 found-call s r =
     by-test P (eqb (length s) 0) (λ t q. absurd (end-no-call q)) (λ t.
-    by-test P (ltb (length s) headSize) (λ u q. absurd (wrong-no-call q)) (λ u.
+    by-test P (ltb (length s) headLength) (λ u q. absurd (wrong-no-call q)) (λ u.
     by-test P (not (eqb (num s 0 2) mark)) (λ v q. absurd (wrong-no-call q)) (λ v.
     by-test P (not (isKind kind)) (λ w q. absurd (wrong-no-call q)) (λ w.
     by-test P (not (eqb size (dataSize kind size))) (λ x q. absurd (wrong-no-call q)) (λ x.
@@ -76,7 +76,7 @@ found-call s r =
     P f = f ≡ Call r → Calls s r
 
 -- a call's record is there whole
-pub call-room : (s : List ℕ) (r : Record) → foundIn s ≡ Call r → headSize + r .size ≤ length s
+pub call-room : (s : List ℕ) (r : Record) → foundIn s ≡ Call r → headLength + r .size ≤ length s
 call-room s r e =
     let c = found-call s r e in
     let g = c .faultless in
@@ -90,5 +90,5 @@ unfolding foundIn
 at-call kind size s k n g =
     let r = g .room in
     let some : length s ≡ 0 → ⊥ = λ z. omega arith in
-    let head : headSize ≤ length s = omega arith in
+    let head : headLength ≤ length s = omega arith in
     rw (ne-eqb _ _ some, le-ltb _ _ head, eq-eqb _ _ (g .marked), k, n, g .is-kind, eq-eqb _ _ (g .is-size), le-ltb _ _ r, g .is-mode)

@@ -5,5 +5,6 @@ pub mod Recorded
 pub mod Listings
 pub mod Sounds
 pub mod Replays
+pub mod Pieces
 pub mod Demand3
 pub mod Computed

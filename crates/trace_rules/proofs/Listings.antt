@@ -7,8 +7,8 @@ use native.Mathlib.Omega.{arith}
 use borrow.Author.Tests.{eq-eqb}
 use lib.ListN.{length, length-drop}
 use Rattle.client_rules.specs.Call as calls
-use Rattle.trace_rules.specs.Record.{foundIn, dataIn, restAfter, callOf, callIn}
-use Rattle.trace_rules.specs.Written.{Entry, entryData, entryOctets, traceOctets, Fits, callsOf}
+use Rattle.trace_rules.specs.Record.{foundIn, dataIn, restAfter, actionCall, recordCall}
+use Rattle.trace_rules.specs.Written.{Entry, entryData, entryOctets, traceOctets, EntryFits, entryCalls}
 use Rattle.trace_rules.specs.Trace.{Listing, onFound, listFor, listing}
 use Rattle.trace_rules.specs.Claim.{RecordsRead}
 use Rattle.trace_rules.specs.declared.Action.{Action}
@@ -34,7 +34,7 @@ later n lend s f g h = go (foundIn s) refl
   where
     go : (w : Found) → foundIn s ≡ w → onFound n lend s w f ≡ onFound n lend s w g
     go (Call r) e =
-        ap (λ (w : Listing). record { calls = record { tag = n; call = callIn (lend n) s r } ∷ w .calls; stop = w .stop })
+        ap (λ (w : Listing). record { calls = record { tag = n; call = recordCall (lend n) s r } ∷ w .calls; stop = w .stop })
         (h (restAfter s r) (shorter s r e))
     go End e = refl
     go (Wrong w) e = refl
@@ -68,28 +68,28 @@ module _ (n : ℕ) (lend : ℕ → List ℕ) (s : List ℕ) where
 
 -- the data of a record counts only where it is a datagram
 same-call : (out d x : List ℕ) (a : ℕ) (action : Action) → x ≡ entryData (record { association = a; action = action; time = 0; datagram = d })
-    → callOf out x a action ≡ callOf out d a action
+    → actionCall out x a action ≡ actionCall out d a action
 same-call out d x a (Open edition timescale c) e = refl
 same-call out d x a (Poll cookie exponent interleaved) e = refl
 same-call out d x a (Sent t1) e = refl
 same-call out d x a (Receive t4) e = ap (λ (y : List ℕ). calls.receive a y t4) e
 same-call out d x a Close e = refl
 
-module _ (n : ℕ) (lend : ℕ → List ℕ) (e : Entry) (f : Fits e) (u : List ℕ) where
+module _ (n : ℕ) (lend : ℕ → List ℕ) (e : Entry) (f : EntryFits e) (u : List ℕ) where
   abbrev whole : List ℕ
   whole = entryOctets e ++ u
 
-  entry-call : callIn (lend n) whole (entryRecord e) ≡ callOf (lend n) (e .datagram) (e .association) (e .action)
+  entry-call : recordCall (lend n) whole (entryRecord e) ≡ actionCall (lend n) (e .datagram) (e .association) (e .action)
   entry-call = same-call (lend n) (e .datagram) (dataIn whole (entryRecord e)) (e .association) (e .action) (entry-data e f u)
 
   listing-entry : listing n lend whole ≡ record {
-    calls = record { tag = n; call = callOf (lend n) (e .datagram) (e .association) (e .action) } ∷ listing (suc n) lend u .calls;
+    calls = record { tag = n; call = actionCall (lend n) (e .datagram) (e .association) (e .action) } ∷ listing (suc n) lend u .calls;
     stop = listing (suc n) lend u .stop;
   }
   listing-entry = listing-eq n lend whole ∙ rw (entry-found e f u, entry-call, entry-rest e f u)
 
 pub records-read : RecordsRead
-unfolding traceOctets callsOf
+unfolding traceOctets entryCalls
 records-read n lend [] rest f = rw (zero-add n)
 records-read n lend (e ∷ es) rest f =
     let k : length es + suc n ≡ suc (length es) + n = omega arith in

@@ -16,8 +16,8 @@ use Rattle.octets.specs.Piece.{spelled, piece, widthOf}
 use Rattle.octets.proofs.Numbers.{num-lt}
 use Rattle.octets.proofs.Pieces.{spelled-read}
 use Rattle.octets.proofs.Written.{take-octets, drop-octets}
-use Rattle.trace_rules.specs.Record.{headSize, isKind, actionOf, foundIn, dataIn, restAfter}
-use Rattle.trace_rules.specs.Written.{Entry, kindOf, timeOf, dataOf, headPieces, entryData, entryOctets, ActionFits, Fits}
+use Rattle.trace_rules.specs.Record.{headLength, isKind, actionOf, foundIn, dataIn, restAfter}
+use Rattle.trace_rules.specs.Written.{Entry, kindOf, timeField, dataOf, headPieces, entryData, entryOctets, ActionFits, EntryFits}
 use Rattle.trace_rules.specs.declared.Record.{Record}
 use Rattle.trace_rules.specs.declared.Found.the-variants.{Call}
 use Rattle.trace_rules.proofs.Faults.{recordIn, Faultless, found-call}
@@ -53,16 +53,16 @@ mode-octet (suc (suc x)) h = absurd (omega arith)
 
 -- what a kind fixes
 pub record Fixed (kind size : ℕ) (s : List ℕ) : Type 0 where
-  pub same-data : dataOf (take size (drop headSize s)) (actionOf kind s) ≡ take size (drop headSize s)
+  pub same-data : dataOf (take size (drop headLength s)) (actionOf kind s) ≡ take size (drop headLength s)
   pub same-kind : kindOf (actionOf kind s) ≡ kind
-  pub same-time : timeOf (num s 6 8) (actionOf kind s) ≡ num s 6 8
+  pub same-time : timeField (num s 6 8) (actionOf kind s) ≡ num s 6 8
   pub fits : ActionFits (actionOf kind s)
 
 fixed : (kind size : ℕ) (s : List ℕ) → Octets s → Faultless kind size s → Kind kind → Fixed kind size s
 unfolding widthOf
 fixed kind size s b g open-kind =
     let n : size ≡ 4 = g .is-size in
-    let room : headSize + 4 ≤ length s = let r = g .room in omega arith in
+    let room : headLength + 4 ≤ length s = let r = g .room in omega arith in
     record {
       same-data = rw n (spelled-read s 14 (piece 1 (num s 14 1) ∷ piece 1 (num s 15 1) ∷ piece 2 (num s 16 2) ∷ []) b room (refl, (refl, (refl, tt))));
       same-kind = refl;
@@ -71,7 +71,7 @@ fixed kind size s b g open-kind =
     }
 fixed kind size s b g poll-kind =
     let n : size ≡ 10 = g .is-size in
-    let room : headSize + 10 ≤ length s = let r = g .room in omega arith in
+    let room : headLength + 10 ≤ length s = let r = g .room in omega arith in
     let mode = mode-octet (num s 23 1) (ltb-false _ _ (g .is-mode)) in
     let exponent = ofZ-toZ {w = w8} (record { fits = num-lt s 22 1 b }) in
     record {
@@ -92,7 +92,7 @@ fixed kind size s b g close-kind =
 
 -- a call that was found, as it is written
 pub record Recorded (s : List ℕ) (r : Record) : Type 0 where
-  pub fit : Fits (entryIn s r)
+  pub fit : EntryFits (entryIn s r)
   pub size : length (entryData (entryIn s r)) ≡ r .size
   pub whole : entryOctets (entryIn s r) ++ restAfter s r ≡ s
 
@@ -104,7 +104,7 @@ module _ (s : List ℕ) (b : Octets s) (g : Faultless (num s 2 1) (num s 4 2) s)
   size = num s 4 2
 
   abbrev own : List ℕ
-  own = take size (drop headSize s)
+  own = take size (drop headLength s)
 
   abbrev entry : Entry
   entry = entryIn s (recordIn kind size s)
@@ -113,12 +113,12 @@ module _ (s : List ℕ) (b : Octets s) (g : Faultless (num s 2 1) (num s 4 2) s)
   own-fixed = fixed kind size s b g (kind-view kind (g .is-kind))
 
   length-own : length own ≡ size
-  length-own = length-take-le size (drop headSize s) (omega (arith, g .room, length-drop headSize s))
+  length-own = length-take-le size (drop headLength s) (omega (arith, g .room, length-drop headLength s))
 
   length-data : length (entryData entry) ≡ size
   length-data = ap length (own-fixed .same-data) ∙ length-own
 
-  head-octets : spelled (headPieces (num s 3 1) (num s 6 8) (length (entryData entry)) (actionOf kind s)) ≡ take headSize s
+  head-octets : spelled (headPieces (num s 3 1) (num s 6 8) (length (entryData entry)) (actionOf kind s)) ≡ take headLength s
   unfolding widthOf
   head-octets =
       spelled-read s 0 (headPieces (num s 3 1) (num s 6 8) (length (entryData entry)) (actionOf kind s)) b (omega (arith, g .room))
@@ -130,13 +130,13 @@ module _ (s : List ℕ) (b : Octets s) (g : Faultless (num s 2 1) (num s 4 2) s)
       association = num-lt s 3 1 b;
       action = own-fixed .fits;
       time = num-lt s 6 8 b;
-      datagram = take-octets size (drop headSize s) (drop-octets headSize s b);
+      datagram = take-octets size (drop headLength s) (drop-octets headLength s b);
       size = omega (arith, length-own, num-lt s 4 2 b);
     };
     size = length-data;
     whole =
-        rw (head-octets, own-fixed .same-data, ← drop-drop size headSize s, append-assoc (take headSize s) own (drop size (drop headSize s)))
-        (rw (take-append-drop size (drop headSize s)) (take-append-drop headSize s));
+        rw (head-octets, own-fixed .same-data, ← drop-drop size headLength s, append-assoc (take headLength s) own (drop size (drop headLength s)))
+        (rw (take-append-drop size (drop headLength s)) (take-append-drop headLength s));
   }
 
 pub found-recorded : (s : List ℕ) (r : Record) → Octets s → foundIn s ≡ Call r → Recorded s r

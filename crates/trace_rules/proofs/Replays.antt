@@ -10,8 +10,8 @@ use Rattle.octets.specs.Number.{Octets}
 use Rattle.order.specs.Order.{after, answers}
 use Rattle.order.proofs.Simulate.{after-append}
 use Rattle.client_rules.specs.Numbers.{stepNumbers}
-use Rattle.trace_rules.specs.Record.{headSize, foundIn, restAfter, callIn}
-use Rattle.trace_rules.specs.Written.{Entry, traceOctets, callsOf}
+use Rattle.trace_rules.specs.Record.{headLength, foundIn, restAfter, recordCall}
+use Rattle.trace_rules.specs.Written.{Entry, traceOctets, entryCalls}
 use Rattle.trace_rules.specs.Trace.{Listing, onFound, listFor, listing, callsIn, Sound}
 use Rattle.trace_rules.specs.Replay.{Run, onReplayed, replayAt, replayFor, replay}
 use Rattle.trace_rules.specs.Claim.{Begins, Replays, JoinedTraces, SoundJoined, WrongRecord}
@@ -39,9 +39,14 @@ run (suc m) n lend trace at t = go (foundIn (drop at trace)) refl (λ k u. run m
         ≡ direct n (onFound n lend (drop at trace) (foundIn (drop at trace)) (listFor m (suc n) lend)) t
     go (Call r) e h =
         let s = drop at trace in
+        let c = recordCall (lend n) s r in
+        let next = at + (headLength + r .size) in
         let w = listFor m (suc n) lend (restAfter s r) in
         let k : length (w .calls) + suc n ≡ suc (length (w .calls)) + n = omega arith in
-        rw (e, h (at + (headSize + r .size)) (stepNumbers (callIn (lend n) s r) t .1), ← drop-drop (headSize + r .size) at trace, k)
+        rw e
+        (ap (λ (x : Run). record { answers = record { tag = n; answer = stepNumbers c t .0 } ∷ x .answers; number = x .number; stop = x .stop; table = x .table })
+        (h next (stepNumbers c t .1) ∙ ap (λ (x : List ℕ). direct (suc n) (listFor m (suc n) lend x) (stepNumbers c t .1)) (sym (drop-drop (headLength + r .size) at trace)))
+        ∙ rw k)
     go End e h = rw (e, zero-add n)
     go (Wrong f) e h = rw (e, zero-add n)
 
@@ -54,8 +59,8 @@ replays lend trace t =
 
 -- ---- one trace after another
 
-length-calls : (n : ℕ) (lend : ℕ → List ℕ) (es : List Entry) → length (callsOf n lend es) ≡ length es
-unfolding callsOf
+length-calls : (n : ℕ) (lend : ℕ → List ℕ) (es : List Entry) → length (entryCalls n lend es) ≡ length es
+unfolding entryCalls
 length-calls n lend [] = refl
 length-calls n lend (e ∷ es) = ap suc (length-calls (suc n) lend es)
 
@@ -72,12 +77,12 @@ module _ (lend : ℕ → List ℕ) (s u : List ℕ) (b : Octets s) (sound : Soun
   is-written : s ≡ traceOctets es
   is-written = first .0 .whole ∙ ap (λ (x : List ℕ). traceOctets es ++ x) (first .1) ∙ append-nil (traceOctets es)
 
-  first-calls : callsIn lend s ≡ callsOf 1 lend es
+  first-calls : callsIn lend s ≡ entryCalls 1 lend es
   first-calls =
       ap (callsIn lend) (first .0 .whole ∙ ap (λ (x : List ℕ). traceOctets es ++ x) (first .1))
       ∙ ap (λ (w : Listing). w .calls) (records-read 1 lend es [] (first .0 .fit))
-      ∙ ap (λ (w : Listing). callsOf 1 lend es ++ w .calls) (no-octets (length es + 1) lend)
-      ∙ append-nil (callsOf 1 lend es)
+      ∙ ap (λ (w : Listing). entryCalls 1 lend es ++ w .calls) (no-octets (length es + 1) lend)
+      ∙ append-nil (entryCalls 1 lend es)
 
   count : length es + 1 ≡ suc (length (callsIn lend s))
   count = let e = ap length first-calls ∙ length-calls 1 lend es in omega arith
@@ -102,7 +107,7 @@ renumbered (suc m) k n lend s t = go (foundIn s) (λ u v. renumbered m k (suc n)
         ≡ after stepNumbers (onFound n (λ j. lend (k + j)) s f (listFor m (suc n) (λ j. lend (k + j))) .calls) t
     go (Call r) h =
         let e : suc (k + n) ≡ k + suc n = omega arith in
-        rw e (h (restAfter s r) (stepNumbers (callIn (lend (k + n)) s r) t .1))
+        rw e (h (restAfter s r) (stepNumbers (recordCall (lend (k + n)) s r) t .1))
     go End h = refl
     go (Wrong f) h = refl
 

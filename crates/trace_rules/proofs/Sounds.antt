@@ -10,7 +10,7 @@ use lib.ListN.{length}
 use Rattle.octets.specs.Number.{Octets, num}
 use Rattle.octets.proofs.Tests.{by-test}
 use Rattle.octets.proofs.Written.{drop-octets}
-use Rattle.trace_rules.specs.Record.{mark, headSize, isKind, dataSize, wrongMode, foundIn, restAfter}
+use Rattle.trace_rules.specs.Record.{mark, headLength, isKind, dataSize, wrongMode, foundIn, restAfter}
 use Rattle.trace_rules.specs.Written.{entryOctets, traceOctets}
 use Rattle.trace_rules.specs.Trace.{Listing, onFound, listFor, listing, Sound}
 use Rattle.trace_rules.specs.Claim.{Begins, SoundTraces, OtherTraces}
@@ -37,11 +37,11 @@ pub end-empty : (s : List ℕ) → foundIn s ≡ End → s ≡ []
 unfolding foundIn
 end-empty s =
     by-test P (eqb (length s) 0) (λ t q. empty s (eqb-true _ _ t)) (λ t.
-    by-test P (ltb (length s) headSize) (λ u q. absurd (wrong-no-end q)) (λ u.
+    by-test P (ltb (length s) headLength) (λ u q. absurd (wrong-no-end q)) (λ u.
     by-test P (not (eqb (num s 0 2) mark)) (λ u q. absurd (wrong-no-end q)) (λ u.
     by-test P (not (isKind (num s 2 1))) (λ u q. absurd (wrong-no-end q)) (λ u.
     by-test P (not (eqb (num s 4 2) (dataSize (num s 2 1) (num s 4 2)))) (λ u q. absurd (wrong-no-end q)) (λ u.
-    by-test P (ltb (length s) (headSize + num s 4 2)) (λ u q. absurd (wrong-no-end q)) (λ u.
+    by-test P (ltb (length s) (headLength + num s 4 2)) (λ u q. absurd (wrong-no-end q)) (λ u.
     by-test P (wrongMode (num s 2 1) s) (λ u q. absurd (wrong-no-end q)) (λ u q. absurd (call-no-end q))))))))
   where
     P : Found → Type 0

@@ -4,7 +4,7 @@ use mathlib.Core.Path.{_≡_}
 use mathlib.Core.Logic.{_↔_}
 use mathlib.Core.List.{List, [], _++_}
 use Prim.Native.Nat.{ℕ, suc, _+_, _<_}
-use lib.ListN.{length}
+use lib.ListN.{length, drop}
 use Rattle.octets.specs.Number.{Octets}
 use Rattle.state.specs.Plain.{Opened, opened}
 use Rattle.order.specs.Order.{after, answers}
@@ -12,20 +12,21 @@ use Rattle.client_rules.specs.Numbers.{tableSize, filterOctet, stepNumbers}
 use Rattle.client_rules.specs.Observe.{watched, observedOctet}
 use Rattle.client_rules.specs.Claim as client
 use Rattle.trace_rules.specs.Record.{foundIn}
-use Rattle.trace_rules.specs.Written.{Entry, traceOctets, AllFit, callsOf}
+use Rattle.trace_rules.specs.Written.{Entry, traceOctets, EntriesFit, entryCalls}
 use Rattle.trace_rules.specs.Trace.{listing, callsIn, Sound}
-use Rattle.trace_rules.specs.Replay.{Run, replay}
+use Rattle.trace_rules.specs.Replay.{replayAt, Run, replay}
 use Rattle.trace_rules.specs.declared.Fault.{Fault}
-use Rattle.trace_rules.specs.declared.Found.the-variants.{Wrong}
+use Rattle.trace_rules.specs.declared.Fault.the-variants.{Cut}
+use Rattle.trace_rules.specs.declared.Found.the-variants.{End, Wrong}
 
 -- WRITTEN AND READ
 
 -- W208-1 to W208-5, W208-8: records as they are written, with any time where it is not looked at, are read as their calls in their order,
 -- and then what follows them is read
 abbrev pub RecordsRead : Type 0
-RecordsRead = (n : ℕ) (lend : ℕ → List ℕ) (es : List Entry) (rest : List ℕ) → AllFit es
+RecordsRead = (n : ℕ) (lend : ℕ → List ℕ) (es : List Entry) (rest : List ℕ) → EntriesFit es
     → listing n lend (traceOctets es ++ rest) ≡ record {
-      calls = callsOf n lend es ++ listing (length es + n) lend rest .calls;
+      calls = entryCalls n lend es ++ listing (length es + n) lend rest .calls;
       stop = listing (length es + n) lend rest .stop;
     }
 
@@ -34,7 +35,7 @@ pub record Begins (s : List ℕ) : Type 0 where
   pub entries : List Entry
   pub rest : List ℕ
   pub whole : s ≡ traceOctets entries ++ rest
-  pub fit : AllFit entries
+  pub fit : EntriesFit entries
 
 -- W208-6, W208-9: a trace is sound exactly if it is records as they are written and nothing else
 abbrev pub SoundTraces : Type 0
@@ -84,10 +85,16 @@ WrongRecord = (lend : ℕ → List ℕ) (s rest t : List ℕ) (f : Fault) → Oc
       table = replay lend s t .table;
     }
 
+-- W208-14: what a record in the octets that were read already answers and leaves is what it does in the whole trace, whatever that has behind
+-- them; only the end, or a cut record, may be otherwise there. So a program may replay a trace that it reads piece by piece
+abbrev pub ReadInPieces : Type 0
+ReadInPieces = (s u : List ℕ) (at : ℕ) (out t : List ℕ) → Octets s → (foundIn (drop at s) ≡ End → ⊥) → (foundIn (drop at s) ≡ Wrong Cut → ⊥)
+    → replayAt (s ++ u) at out t ≡ replayAt s at out t
+
 -- DEMAND 3 OF A REPLAY
 
--- D-3, W208-15: all that holds of a list of calls holds of those of a trace, reorderings too; and after a replay on a cleared table each filter octet
--- of an open association is what the trace's own records and their answers say
+-- D-3, W208-15: all that holds of a list of calls holds of those of a trace, reorderings too; and after a replay on a cleared table each
+-- filter octet of an open association is what the trace's own records and their answers say
 pub record Demand3Replayed (lend : ℕ → List ℕ) (trace t : List ℕ) : Type 0 where
   pub demand3 : client.Claim stepNumbers t (callsIn lend trace)
   pub filters : (a : ℕ) → a < 16 → (o : Opened) → client.placeAfter (callsIn lend trace) a ≡ opened o → (i : ℕ) → i < 512

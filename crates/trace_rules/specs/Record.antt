@@ -21,8 +21,8 @@ abbrev pub mark : ℕ
 mark = 0x4E35
 
 -- W208-2: what stands before the data
-abbrev pub headSize : ℕ
-headSize = 14
+abbrev pub headLength : ℕ
+headLength = 14
 
 -- W208-3: 1 open, 2 poll, 3 sent, 4 receive, 5 close
 abbrev pub isKind : ℕ → Bool
@@ -46,11 +46,11 @@ actionOf kind s =
     Close)))
 
 -- W208-6, W208-7: the first fault of a record whose head is there and has the mark, or its call
-abbrev pub recordOf : (kind size : ℕ) → List ℕ → Found
-recordOf kind size s =
+abbrev pub foundOfKind : (kind size : ℕ) → List ℕ → Found
+foundOfKind kind size s =
     cond (not (isKind kind)) (Wrong Kind)
     (cond (not (eqb size (dataSize kind size))) (Wrong Length)
-    (cond (ltb (length s) (headSize + size)) (Wrong Cut)
+    (cond (ltb (length s) (headLength + size)) (Wrong Cut)
     (cond (wrongMode kind s) (Wrong Kind)
     (Call (record { association = num s 3 1; action = actionOf kind s; size = size })))))
 
@@ -58,28 +58,28 @@ recordOf kind size s =
 unfoldable pub foundIn : List ℕ → Found
 foundIn s =
     cond (eqb (length s) 0) End
-    (cond (ltb (length s) headSize) (Wrong Cut)
+    (cond (ltb (length s) headLength) (Wrong Cut)
     (cond (not (eqb (num s 0 2) mark)) (Wrong Mark)
-    (recordOf (num s 2 1) (num s 4 2) s)))
+    (foundOfKind (num s 2 1) (num s 4 2) s)))
 
 -- the data of the record that s begins with, and what follows it
 abbrev pub dataIn : List ℕ → Record → List ℕ
-dataIn s r = take (r .size) (drop headSize s)
+dataIn s r = take (r .size) (drop headLength s)
 
 abbrev pub restAfter : List ℕ → Record → List ℕ
-restAfter s r = drop (headSize + r .size) s
+restAfter s r = drop (headLength + r .size) s
 
 -- W208-4: the call, where a poll is lent `out`
-abbrev pub callOf : (out datagram : List ℕ) (association : ℕ) → Action → calls.Call
-callOf out datagram a (Open edition timescale c) = calls.openOne a edition timescale c
-callOf out datagram a (Poll cookie exponent interleaved) = calls.poll a (cookie .0) exponent interleaved out
-callOf out datagram a (Sent t1) = calls.sent a t1
-callOf out datagram a (Receive t4) = calls.receive a datagram t4
-callOf out datagram a Close = calls.closeOne a
+abbrev pub actionCall : (out datagram : List ℕ) (association : ℕ) → Action → calls.Call
+actionCall out datagram a (Open edition timescale c) = calls.openOne a edition timescale c
+actionCall out datagram a (Poll cookie exponent interleaved) = calls.poll a (cookie .0) exponent interleaved out
+actionCall out datagram a (Sent t1) = calls.sent a t1
+actionCall out datagram a (Receive t4) = calls.receive a datagram t4
+actionCall out datagram a Close = calls.closeOne a
 
 -- of the record that s begins with
-abbrev pub callIn : (out s : List ℕ) → Record → calls.Call
-callIn out s r = callOf out (dataIn s r) (r .association) (r .action)
+abbrev pub recordCall : (out s : List ℕ) → Record → calls.Call
+recordCall out s r = actionCall out (dataIn s r) (r .association) (r .action)
 
 -- the output buffer after a call that answered w: only a poll is lent it
 abbrev pub lentAfter : (out : List ℕ) → Action → Answer → List ℕ

@@ -5,7 +5,7 @@ use lib.ListN.{length, drop}
 use Rattle.order.specs.Order.{TaggedAnswer}
 use Rattle.client_rules.specs.Call.{Answer, plainAnswer}
 use Rattle.client_rules.specs.Numbers.{stepNumbers}
-use Rattle.trace_rules.specs.Record.{headSize, foundIn, dataIn, callOf, lentAfter}
+use Rattle.trace_rules.specs.Record.{headLength, foundIn, dataIn, actionCall, lentAfter}
 use Rattle.trace_rules.specs.declared.Record.{Record}
 use Rattle.trace_rules.specs.declared.Found.{Found}
 use Rattle.trace_rules.specs.declared.Found.the-variants.{Call, End, Wrong}
@@ -27,14 +27,14 @@ abbrev pub madeBy : Record → (datagram : List ℕ) (next : ℕ) (out t : List 
 madeBy r datagram next out t = record {
   found = Call r;
   next = next;
-  answer = stepNumbers (callOf out datagram (r .association) (r .action)) t .0;
-  out = lentAfter out (r .action) (stepNumbers (callOf out datagram (r .association) (r .action)) t .0);
-  table = stepNumbers (callOf out datagram (r .association) (r .action)) t .1;
+  answer = stepNumbers (actionCall out datagram (r .association) (r .action)) t .0;
+  out = lentAfter out (r .action) (stepNumbers (actionCall out datagram (r .association) (r .action)) t .0);
+  table = stepNumbers (actionCall out datagram (r .association) (r .action)) t .1;
 }
 
 -- the call of what s begins with
 abbrev pub replayFound : (s : List ℕ) → Found → (at : ℕ) (out t : List ℕ) → Replayed
-replayFound s (Call r) at out t = madeBy r (dataIn s r) (at + (headSize + r .size)) out t
+replayFound s (Call r) at out t = madeBy r (dataIn s r) (at + (headLength + r .size)) out t
 replayFound s End at out t = notMade End at out t
 replayFound s (Wrong f) at out t = notMade (Wrong f) at out t
 
@@ -42,7 +42,8 @@ replayFound s (Wrong f) at out t = notMade (Wrong f) at out t
 unfoldable pub replayAt : (trace : List ℕ) (at : ℕ) (out t : List ℕ) → Replayed
 replayAt trace at out t = replayFound (drop at trace) (foundIn (drop at trace)) at out t
 
--- W208-10, W208-11: what records answered, the number of the record that ended them or would be next, what that was, and the table that is left
+-- W208-10, W208-11: what records answered, the number of the record that ended them or would be next, what that was, and the table that
+-- is left
 pub record Run : Type 0 where
   pub answers : List (TaggedAnswer Answer)
   pub number : ℕ

@@ -5,7 +5,7 @@ use Prim.Native.Nat.{ℕ, zero, suc}
 use lib.ListN.{length}
 use Rattle.order.specs.Order.{TaggedCall}
 use Rattle.client_rules.specs.Call as calls
-use Rattle.trace_rules.specs.Record.{foundIn, restAfter, callIn}
+use Rattle.trace_rules.specs.Record.{foundIn, restAfter, recordCall}
 use Rattle.trace_rules.specs.declared.Found.{Found}
 use Rattle.trace_rules.specs.declared.Found.the-variants.{Call, End, Wrong}
 
@@ -17,7 +17,7 @@ pub record Listing : Type 0 where
 -- W208-11: a wrong record ends the trace
 abbrev pub onFound : (n : ℕ) (lend : ℕ → List ℕ) (s : List ℕ) → Found → (List ℕ → Listing) → Listing
 onFound n lend s (Call r) rest =
-    record { calls = record { tag = n; call = callIn (lend n) s r } ∷ rest (restAfter s r) .calls; stop = rest (restAfter s r) .stop }
+    record { calls = record { tag = n; call = recordCall (lend n) s r } ∷ rest (restAfter s r) .calls; stop = rest (restAfter s r) .stop }
 onFound n lend s End rest = record { calls = []; stop = End }
 onFound n lend s (Wrong f) rest = record { calls = []; stop = Wrong f }
 

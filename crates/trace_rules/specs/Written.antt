@@ -9,7 +9,7 @@ use Rattle.octets.specs.Number.{Octets}
 use Rattle.octets.specs.Piece.{Piece, piece, spelled}
 use Rattle.order.specs.Order.{TaggedCall, Every}
 use Rattle.client_rules.specs.Call.{Call}
-use Rattle.trace_rules.specs.Record.{mark, callOf}
+use Rattle.trace_rules.specs.Record.{mark, actionCall}
 use Rattle.trace_rules.specs.declared.Action.{Action}
 use Rattle.trace_rules.specs.declared.Action.the-variants.{Open, Poll, Sent, Receive, Close}
 
@@ -29,12 +29,12 @@ kindOf (Receive t4) = 4
 kindOf Close = 5
 
 -- W208-5
-abbrev pub timeOf : (time : ℕ) → Action → ℕ
-timeOf time (Open edition timescale c) = time
-timeOf time (Poll cookie exponent interleaved) = time
-timeOf time (Sent t1) = t1
-timeOf time (Receive t4) = t4
-timeOf time Close = time
+abbrev pub timeField : (time : ℕ) → Action → ℕ
+timeField time (Open edition timescale c) = time
+timeField time (Poll cookie exponent interleaved) = time
+timeField time (Sent t1) = t1
+timeField time (Receive t4) = t4
+timeField time Close = time
 
 -- W208-4
 abbrev pub dataOf : (datagram : List ℕ) → Action → List ℕ
@@ -46,7 +46,7 @@ dataOf datagram Close = []
 
 -- W208-1, W208-2
 abbrev pub headPieces : (association time : ℕ) (size : ℕ) → Action → List Piece
-headPieces a time size action = piece 2 mark ∷ piece 1 (kindOf action) ∷ piece 1 a ∷ piece 2 size ∷ piece 8 (timeOf time action) ∷ []
+headPieces a time size action = piece 2 mark ∷ piece 1 (kindOf action) ∷ piece 1 a ∷ piece 2 size ∷ piece 8 (timeField time action) ∷ []
 
 abbrev pub entryData : Entry → List ℕ
 entryData e = dataOf (e .datagram) (e .action)
@@ -67,17 +67,17 @@ ActionFits (Receive t4) = t4 < 2 ^ 64
 ActionFits Close = Unit {0}
 
 -- and so are those beside it
-pub record Fits (e : Entry) : Type 0 where
+pub record EntryFits (e : Entry) : Type 0 where
   pub association : e .association < 2 ^ 8
   pub action : ActionFits (e .action)
   pub time : e .time < 2 ^ 64
   pub datagram : Octets (e .datagram)
   pub size : length (e .datagram) < 2 ^ 16
 
-abbrev pub AllFit : List Entry → Type 0
-AllFit es = Every Fits es
+abbrev pub EntriesFit : List Entry → Type 0
+EntriesFit es = Every EntryFits es
 
 -- the calls of such records, from number n on; `lend k` is what record k lends, if it is a poll
-unfoldable pub callsOf : (n : ℕ) (lend : ℕ → List ℕ) → List Entry → List (TaggedCall Call)
-callsOf n lend [] = []
-callsOf n lend (e ∷ es) = record { tag = n; call = callOf (lend n) (e .datagram) (e .association) (e .action) } ∷ callsOf (suc n) lend es
+unfoldable pub entryCalls : (n : ℕ) (lend : ℕ → List ℕ) → List Entry → List (TaggedCall Call)
+entryCalls n lend [] = []
+entryCalls n lend (e ∷ es) = record { tag = n; call = actionCall (lend n) (e .datagram) (e .association) (e .action) } ∷ entryCalls (suc n) lend es

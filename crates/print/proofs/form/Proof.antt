@@ -15,8 +15,8 @@ abbrev μ-loop : tie.MeasureT-loop
 piece-requires : tie.Need-piece-requires Inv-loop μ-loop
 piece-requires c κs = search needs
 
-octets-of-requires : tie.Need-octets-of-requires Inv-loop μ-loop
-octets-of-requires c κs = search needs
+append-requires : tie.Need-append-requires Inv-loop μ-loop
+append-requires c κs = search needs
 
 loop-holds : tie.Need-loop-holds Inv-loop μ-loop
 loop-holds c = search needs
@@ -70,7 +70,7 @@ form-spec =
     Inv-loop
     μ-loop
     piece-requires
-    octets-of-requires
+    append-requires
     loop-holds
     add-piece
     piece-requires-2

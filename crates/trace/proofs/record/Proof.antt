@@ -5,7 +5,7 @@ use native.Mathlib.Omega.{arith}
 use borrow.Author.Tests.{lt-ltb, le-ltb, eq-eqb, ne-eqb}
 use lib.ListN.{length}
 use Rattle.octets.proofs.Numbers.{got}
-use Rattle.trace_rules.specs.Record.{headSize, dataSize}
+use Rattle.trace_rules.specs.Record.{headLength, dataSize}
 use Rattle.trace.proofs.Actions.{least-room}
 use borrow.Author.Needs.{needs}
 use Rattle.trace.proofs.record.Statement.{statement}
@@ -33,11 +33,11 @@ returns-3 : tie.Need-returns-3
 returns-3 c =
     let e = c .before .before .before in
     let a = e .before .before .args in
-    let cut : length (a .s .now) < headSize + a .size = let l = c .if3 .taken in omega arith in
+    let cut : length (a .s .now) < headLength + a .size = let l = c .if3 .taken in omega arith in
     rw (e .if1 .left, eq-eqb _ _ (sized (c .before)), lt-ltb _ _ cut)
 
 -- the data is there
-room : (c : tie.Else3) → let a = c .before .before .before .before .before .args in headSize + a .size ≤ length (a .s .now)
+room : (c : tie.Else3) → let a = c .before .before .before .before .before .args in headLength + a .size ≤ length (a .s .now)
 room c = let l = c .if3 .left in let p = c .before .before .before .before .before .pre in omega arith
 
 wrong-mode-requires : tie.Need-wrong-mode-requires

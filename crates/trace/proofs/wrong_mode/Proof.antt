@@ -4,7 +4,7 @@ use native.Mathlib.Omega.{arith}
 use lib.ListN.{length}
 use borrow.Author.Tests.{ne-eqb}
 use Rattle.octets.proofs.Numbers.{got}
-use Rattle.trace_rules.specs.Record.{headSize}
+use Rattle.trace_rules.specs.Record.{headLength}
 use borrow.Author.Needs.{needs}
 use Rattle.trace.proofs.wrong_mode.Statement.{statement}
 use Rattle.trace.proofs.wrong_mode.Tie as tie
@@ -17,7 +17,7 @@ returns c =
     let start = c .before .before .before in
     let s = start .args .s .now in
     let k = c .before .if1 .taken in
-    let r : headSize + 10 ≤ length s = rw k at (start .pre) in
+    let r : headLength + 10 ≤ length s = rw k at (start .pre) in
     rw (k, got s 23 1 _ (omega arith) (c .get8 .ensures))
 
 returns-2 : tie.Need-returns-2

@@ -12,6 +12,9 @@ enum-known-received c = search needs
 enum-known-received-2 : tie.Need-enum-known-received-2
 enum-known-received-2 c = search needs
 
+of-refusal-requires : tie.Need-of-refusal-requires
+of-refusal-requires c κs = search needs
+
 returns : tie.Need-returns
 returns c =
     let known = c .before .before .received .given in
@@ -20,7 +23,7 @@ returns c =
     rw (known .1) (λ i. receivedNumbers (record { refusal = 0; judgement = m .judgement; chunk = m .chunk; offset = offset i; delay = m .delay }))
 
 returns-2 : tie.Need-returns-2
-returns-2 c = rw (c .before .received2 .given .1)
+returns-2 c = rw (c .before .before .received2 .given .1) (c .of-refusal .ensures)
 
 pub of-received-spec : {M : Type 1} → statement M
-of-received-spec = tie.close (tie.spec enum-known-received enum-known-received-2 returns returns-2)
+of-received-spec = tie.close (tie.spec enum-known-received enum-known-received-2 of-refusal-requires returns returns-2)

@@ -5,7 +5,7 @@ use Prim.Native.Nat.{ℕ, _+_, _-_, _≤_}
 use native.Mathlib.Omega.{arith}
 use lib.ListN.{length, take, drop, length-drop}
 use Rattle.octets.proofs.Parts.{take-rest}
-use Rattle.trace_rules.specs.Record.{headSize, foundIn}
+use Rattle.trace_rules.specs.Record.{headLength, foundIn}
 use Rattle.trace_rules.specs.Replay.{madeBy}
 use Rattle.trace_rules.specs.declared.Found.the-variants.{End}
 use Rattle.trace_rules.proofs.Faults.{end-no-call, call-room}
@@ -53,7 +53,7 @@ returns-2 c =
     none-made (a .trace .now) (a .at) (a .out .now) (a .table .now) (f .read .result) _ (found f) (no-call (f .read .result) (m .match .keys2)) (c .not-made2 .ensures)
 
 -- the record that was found is there whole
-room : (c : tie.After-found) → let a = c .before .before .before .before .before .before .before .before .args in a .at + (headSize + c .found .given .0 .0 .size) ≤ length (a .trace .now)
+room : (c : tie.After-found) → let a = c .before .before .before .before .before .before .before .before .args in a .at + (headLength + c .found .given .0 .0 .size) ≤ length (a .trace .now)
 room c =
     let a = c .before .before .before .before .before .before .before .before .args in
     let l = c .before .before .before .before .if1 .left in
@@ -89,12 +89,12 @@ returns-3 c =
     let f = m .before .before .before .before .before .before in
     let a = f .before .before .before .before .before .before .before .before .args in
     let r = f .found .given .0 .0 in
-    let n : headSize + r .size - headSize ≡ r .size = omega arith in
+    let n : headLength + r .size - headLength ≡ r .size = omega arith in
     call-made (a .trace .now) (a .at) (a .out .now) (a .table .now) r _ (found (f .before .before) ∙ f .found .given .1)
     (m .make .ensures
-    ∙ ap (λ (d : List ℕ). replayLeft (madeBy r d (a .at + (headSize + r .size)) (a .out .now) (a .table .now)))
-    (ap (λ (s : List ℕ). take (headSize + r .size - headSize) (drop headSize s)) (take-rest (a .trace .now) (a .at))
-    ∙ ap (λ (k : ℕ). take k (drop headSize (drop (a .at) (a .trace .now)))) n))
+    ∙ ap (λ (d : List ℕ). replayLeft (madeBy r d (a .at + (headLength + r .size)) (a .out .now) (a .table .now)))
+    (ap (λ (s : List ℕ). take (headLength + r .size - headLength) (drop headLength s)) (take-rest (a .trace .now) (a .at))
+    ∙ ap (λ (k : ℕ). take k (drop headLength (drop (a .at) (a .trace .now)))) n))
 
 pub ntp5-replay-spec : {M : Type 1} → statement M
 ntp5-replay-spec =

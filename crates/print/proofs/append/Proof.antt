@@ -1,10 +1,10 @@
--- `octets_of` is safe and ends. Assumes nothing.
+-- `append` is safe and ends. Assumes nothing.
 use mathlib.Core.Path.{_≡_}
 use Prim.Native.Nat.{_-_}
 use lib.ListN.{length}
 use borrow.Author.Needs.{needs}
-use Rattle.print.proofs.octets_of.Statement.{statement}
-use Rattle.print.proofs.octets_of.Tie as tie
+use Rattle.print.proofs.append.Statement.{statement}
+use Rattle.print.proofs.append.Tie as tie
 
 abbrev Inv-loop : tie.InvT-loop
 Inv-loop out₀ at s place₀ i₀ out place i = length out ≡ length out₀
@@ -36,8 +36,8 @@ same-length c = search needs
 returns : tie.Need-returns Inv-loop μ-loop
 returns c = search needs
 
-pub octets-of-spec : {M : Type 1} → statement M
-octets-of-spec =
+pub append-spec : {M : Type 1} → statement M
+append-spec =
     tie.close
     (tie.spec
     Inv-loop
