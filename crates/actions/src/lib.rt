@@ -1,5 +1,7 @@
 // The calls of a case file on the responder's store: each is made with the values of a line's words, and its result line
 // printed. A call's number is that of its row, from 0 on. `kept` is the store's length, two octets, and then its octets.
+#![tactic(auto)]
+
 mod answering;
 
 ghost use Rattle.std.specs.Prelude.{◌≡◌, ◌+◌, ◌*◌, ◌≤◌, length};

@@ -1,4 +1,6 @@
 // The fields of an answer, R-16 to R-20: one pass over those of the request, which edition 1 leaves out (W204-14), then the padding.
+#![tactic(auto)]
+
 ghost use Rattle.std.specs.Prelude.{◌≡◌, ◌+◌, ◌-◌, ◌%◌, ◌≤◌, min, ◌++◌, length, take};
 ghost use Rattle.chain.specs.Chain.{padded};
 ghost use Rattle.chain.specs.Content.{chain_octets};

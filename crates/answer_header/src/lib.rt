@@ -1,4 +1,6 @@
 // The header of an answer, R-5 to R-12, in either edition, W204-13.
+#![tactic(auto)]
+
 ghost use Rattle.std.specs.Prelude.{◌≡◌, cond, ◌-◌, ◌*◌, ◌/◌, ◌%◌};
 ghost use Rattle.header.specs.Edition.{interleaved_bit};
 ghost use Rattle.responder_rules.specs.Answer.{wants_interleaved, sent_flags, sent_offset, answer_header};

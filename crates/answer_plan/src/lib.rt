@@ -1,4 +1,6 @@
 // What a step decides, by value.
+#![tactic(auto)]
+
 ghost use Rattle.std.specs.Prelude.{◌≡◌};
 ghost use Rattle.responder_rules.specs.Answer.{refused_answer};
 ghost use Rattle.answer_plan.specs.Value.{request_cookie, unchanged_plan, keeping_plan, plan_for, plan_of};
@@ -7,14 +9,14 @@ use answer_header::wants_interleaved;
 use header::{Header, Reading, ServerCookie};
 
 // What the step of an answer on the records returns: its refusal, and the saved time that is sent, 0 in a basic answer.
-#[derive(Drop)]
+#[derive(Clone, Copy)]
 pub struct AnswerStep {
     pub refusal: u8,
     pub saved: u64,
 }
 
 // What a step returns, and whether the records stay; if not, the place of the record that leaves (past the end, none) before the fresh cookie joins.
-#[derive(Drop)]
+#[derive(Clone, Copy)]
 pub struct Plan {
     pub step: AnswerStep,
     pub unchanged: bool,

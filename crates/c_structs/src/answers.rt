@@ -12,7 +12,7 @@ use responder_rules::Answered;
 
 // How many octets were written; 0 in a refusal (N-27).
 #[repr(C)]
-#[derive(Drop)]
+#[derive(Clone, Copy)]
 pub struct Written {
     pub refusal: u8,
     pub length: u16,
@@ -20,7 +20,7 @@ pub struct Written {
 
 // A response's judgement (C-23 to C-26, W206-5), its chunk's outcome (C-20), and its measurement.
 #[repr(C)]
-#[derive(Drop)]
+#[derive(Clone, Copy)]
 pub struct Received {
     pub refusal: u8,
     pub judgement: u8,
@@ -31,14 +31,14 @@ pub struct Received {
 
 // B-7; 0 in a refusal.
 #[repr(C)]
-#[derive(Drop)]
+#[derive(Clone, Copy)]
 pub struct Verdict {
     pub refusal: u8,
     pub verdict: u8,
 }
 
 #[repr(C)]
-#[derive(Drop)]
+#[derive(Clone, Copy)]
 pub struct Weight {
     pub refusal: u8,
     pub weight: u16,
@@ -46,7 +46,7 @@ pub struct Weight {
 
 // Judgement 0 with offset and delay, or 5 and zeros (W206-7).
 #[repr(C)]
-#[derive(Drop)]
+#[derive(Clone, Copy)]
 pub struct Measurement {
     pub judgement: u8,
     pub offset: i64,

@@ -6,7 +6,7 @@ use header::edition::edition_of;
 use header::{ClientCookie, Reading, ServerCookie};
 
 #[repr(C)]
-#[derive(Drop)]
+#[derive(Clone, Copy)]
 pub struct Header {
     pub leap: u8,
     pub mode: u8,
@@ -26,7 +26,7 @@ pub struct Header {
 }
 
 #[repr(C)]
-#[derive(Drop)]
+#[derive(Clone, Copy)]
 pub struct Read {
     pub refusal: u8,
     pub header: Header,

@@ -10,7 +10,7 @@ use trace_rules::{Action, Fault, Found, Record};
 
 // W208-13: what was found, where the next record begins, and what the call answered; all but state and next are 0 where none was made.
 #[repr(C)]
-#[derive(Drop)]
+#[derive(Clone, Copy)]
 pub struct Replayed {
     pub state: u8,
     pub kind: u8,

@@ -1,5 +1,7 @@
 // S-5: reads calls, one a line, from the file that its argument names or from standard input, and prints a result line for each:
 // see docs/CASES.md.
+#![tactic(auto)]
+
 mod calls;
 mod input;
 

@@ -1,5 +1,7 @@
 // The calls of a case file that change the client's table: each is made with the values of a line's words, and its result
 // line printed. A call's number is that of its row, from 0 on.
+#![tactic(auto)]
+
 mod answers;
 
 ghost use Rattle.std.specs.Prelude.{◌≡◌, []};

@@ -1,9 +1,9 @@
 -- Sound responses with the same header and the same data in the first 0xF504 are received alike, W209-7. Assumes nothing.
 use mathlib.Core.Path.{◌≡◌, refl, sym, ap, ◌∙◌}
 use mathlib.Core.List.{List, [], ◌∷◌, ◌++◌}
-use Prim.Native.Nat.{ℕ, ◌<◌}
+use Prim.Native.Nat.{ℕ}
 use native.Mathlib.Omega.{arith}
-use lib.ListN.{length, get_or, get_or-append}
+use lib.ListN.{get_or-append}
 use Rattle.header.specs.Header.{header_of}
 use Rattle.header.specs.declared.edition.Edition.{Edition}
 use Rattle.header.proofs.Starts.{header-same}
@@ -14,14 +14,12 @@ use Rattle.chain.proofs.Contents.{contents-written}
 use Rattle.exchange.specs.Response.{response_of}
 use Rattle.exchange.specs.declared.response.Response.{Response}
 use Rattle.exchange.proofs.Alike.{first_data, first-skips, Alike, responses-alike}
-use Rattle.state.specs.Plain.{Place}
 use Rattle.state.specs.declared.event.Event.TheVariants.{Receive}
-use Rattle.state.specs.declared.event.Reply.{Reply}
 use Rattle.state.proofs.Alike.{alike-done}
 use Rattle.association.specs.Step.{on_numbers}
 use Rattle.client_rules.specs.Call.{receive, receive_answer}
 use Rattle.client_rules.specs.Step.{event_on, answering}
-use Rattle.client_rules.specs.Numbers.{edition_at, part, at_numbers, step_numbers}
+use Rattle.client_rules.specs.Numbers.{edition_at, at_numbers, step_numbers}
 use Rattle.client_rules.specs.Correction.{CorrectionIgnored}
 
 -- the same fields but for one of another type

@@ -6,34 +6,33 @@ use Prim.Native.Nat.{ℕ, zero, suc, ◌+◌, ◌*◌, ◌<◌, ◌≤◌, min}
 use native.Mathlib.Decide.{ℕ_discrete}
 use native.Mathlib.Nat.{suc-mul}
 use native.Mathlib.Omega.{arith}
-use borrow.Author.Tests.{eq-eqb, eqb-true, eqb-false, not-true}
+use borrow.Author.Tests.{eq-eqb, eqb-false, not-true}
 use lib.Dec.{eqb}
-use lib.ListN.{length, get_or}
+use lib.ListN.{get_or}
 use Rattle.filter_rules.specs.Publishing.{bit}
 use Rattle.header.specs.Edition.{edition_number}
 use Rattle.header.specs.declared.edition.Edition.{Edition}
 use Rattle.header.specs.declared.edition.Edition.TheVariants.{One, Seven}
 use Rattle.exchange.specs.Response.{response_of}
-use Rattle.exchange.specs.Judging.{outcome_of}
 use Rattle.exchange.proofs.Responses.{none-present}
-use Rattle.state.specs.Plain.{Opened, Place, closed, opened, place_filter, place_edition, all_taken, reply_of, place_do}
+use Rattle.state.specs.Plain.{Opened, Place, closed, opened, place_filter, place_edition, all_taken, place_do}
 use Rattle.state.specs.Numbers.{count_taken}
 use Rattle.state.specs.declared.event.Event.TheVariants.{Receive, Look}
 use Rattle.state.specs.declared.event.Reply.{Reply}
 use Rattle.state.proofs.Flags.{all_first}
 use Rattle.state.proofs.Refused.{by-request}
 use Rattle.association.proofs.Reached.{GoodPlace, GoodOpened, ranges, flags-back, none-taken}
-use Rattle.octets.proofs.Tests.{by-test, by-outcome}
+use Rattle.octets.proofs.Tests.{by-test}
 use Rattle.order.specs.Order.{after}
-use Rattle.client_rules.specs.Call.{Call, clear_table, open_one, close_one, poll, sent, receive, loop_verdict, publish, Answer, plain_answer, verdict_answer, receive_answer}
-use Rattle.client_rules.specs.Select.{Seen, all_selected, in_range_seen, complete_seen, publish_for, verdict_for}
+use Rattle.client_rules.specs.Call.{Call, clear_table, open_one, close_one, poll, sent, receive, loop_verdict, publish, Answer, receive_answer}
+use Rattle.client_rules.specs.Select.{Seen, all_selected, in_range_seen, complete_seen, verdict_for}
 use Rattle.client_rules.specs.Step.{publishing}
 use Rattle.client_rules.specs.Plain.{closed_table, step_plain}
 use Rattle.client_rules.specs.Numbers.{step_numbers, filter_octet}
 use Rattle.client_rules.specs.Observe.{Observation, took_chunk, succeeded, observed_octet, chunks_taken, watched}
-use Rattle.client_rules.specs.Claim.{reached, refusal_by}
-use Rattle.client_rules.specs.Edition.{observed_edition, NoOctetTaken, MixedEditions}
-use Rattle.client_rules.proofs.Tables.{GoodTable, good_start, good-at, filter-holds, seen_place, at_place}
+use Rattle.client_rules.specs.Claim.{reached}
+use Rattle.client_rules.specs.Edition.{observed_edition, MixedEditions}
+use Rattle.client_rules.proofs.Tables.{good_start, good-at, filter-holds, seen_place, at_place}
 use Rattle.client_rules.proofs.Simulate.{at_in}
 use Rattle.client_rules.proofs.Observed.{Watching, Watched}
 use Rattle.client_rules.proofs.Demand2.{refused-number}

@@ -10,7 +10,6 @@ use lib.Seq.{drop-drop}
 use Rattle.octets.specs.Among.{among}
 use Rattle.octets.proofs.Among.{among-not-zero}
 use Rattle.chain.proofs.Refusals.{sound-number}
-use Rattle.header.specs.Header.{refusal}
 use Rattle.exchange.proofs.Responses.{response-sound}
 use Rattle.poll_request.specs.Request.{poll_length}
 use Rattle.state.specs.Rules.{openable}

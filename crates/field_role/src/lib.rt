@@ -1,4 +1,6 @@
 // What a field of a request asks of a responder.
+#![tactic(auto)]
+
 ghost use Rattle.std.specs.Prelude.{◌≡◌};
 ghost use Rattle.field_role.specs.Role.{is_answered, none_met, met_after, role_with, request_role};
 
@@ -6,14 +8,14 @@ use chain::cursor::Field;
 use octets::number;
 
 // Which of the types that a responder answers were met already.
-#[derive(Drop)]
+#[derive(Clone, Copy)]
 pub struct Met {
     pub request: bool,
     pub information: bool,
     pub name: bool,
 }
 
-#[derive(Drop)]
+#[derive(Clone, Copy)]
 pub enum Role {
     // A good filter request, F-14, with its offset; the field's data length is the number of octets asked.
     FilterRequest(u16),

@@ -1,5 +1,7 @@
 // Filters kept as words of 64 bits, W210-1. Each call does to words what `filter_rules` says of their octets (W210-6), and is total: a
 // position past the end of a slice is not set, and adding it changes nothing.
+#![tactic(auto)]
+
 ghost use Rattle.std.specs.Prelude.{◌≡◌};
 ghost use Prim.Native.Nat.{◌/◌, ◌%◌};
 ghost use Rattle.filter_rules.specs.Filter.{add_all_in, contains_all_in, union};

@@ -3,7 +3,7 @@ ghost use Rattle.std.specs.Prelude.{◌≡◌};
 ghost use Rattle.header.specs.Edition.{is_edition, edition_of, most_timescale, over_limits, interleaved_flag};
 
 // 1, of December 2020, and 7, of March 2023.
-#[derive(Drop)]
+#[derive(Clone, Copy)]
 pub enum Edition {
     One,
     Seven,

@@ -1,5 +1,7 @@
 // Octets as words of 64 bits and back, the one conversion of W203-1 and W210-6. A word's first octet is its lowest. Where a part runs past an
 // end, nothing changes.
+#![tactic(auto)]
+
 mod eight;
 
 ghost use Rattle.std.specs.Prelude.{◌≡◌, ◌+◌, ◌*◌, ◌≤◌, length, drop};

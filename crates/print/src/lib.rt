@@ -9,6 +9,8 @@
 //
 // A public call returns nothing and leaves every octet that it was lent as it was, which is all that a contract can say:
 // what goes to standard output is outside the logic, and is compared where a program is run.
+#![tactic(auto)]
+
 pub mod convert;
 
 ghost use Rattle.std.specs.Prelude.{◌≡◌};

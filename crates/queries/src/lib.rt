@@ -1,6 +1,8 @@
 // The calls of a case file that change nothing that they are lent: all but those on the client's table (crate changes) and on
 // the store (crate actions). Each prints its result line. As in `print`, what is printed is outside the logic, so that a
 // contract says all that is left: a call returns nothing and leaves every octet as it was.
+#![tactic(auto)]
+
 mod outputs;
 mod views;
 

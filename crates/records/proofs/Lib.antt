@@ -1,4 +1,4 @@
--- The laws of the slice of records: of its calls' definitions, of their being the store's, and what the walks share. Assumes nothing.
+-- The laws of the slice of records: of its calls' definitions, and of their being the store's. Assumes nothing.
 pub mod Slots
 pub mod Moves
 pub mod Judging
@@ -7,8 +7,3 @@ pub mod Reporting
 pub mod Joining
 pub mod Encoding
 pub mod Sameness
-pub mod Walk
-pub mod Finding
-pub mod Lending
-pub mod Calling
-pub mod Leaving

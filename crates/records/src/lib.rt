@@ -1,4 +1,6 @@
 // The responder's saved timestamps, R-1 to R-3, as a lent slice of records, G-9.
+#![tactic(auto)]
+
 mod value;
 
 ghost use Rattle.std.specs.Prelude.{◌≡◌};
@@ -8,7 +10,7 @@ use header::ServerCookie;
 use value::Seen;
 
 // R-2: an unused record has cookie 0 and time 0; a used one has time 0 until it is reported.
-#[derive(Drop)]
+#[derive(Clone, Copy)]
 pub struct Record {
     pub cookie: ServerCookie,
     pub time: u64,

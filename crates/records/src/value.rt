@@ -14,7 +14,7 @@ pub(crate) fn wrong_count(n: usize) -> bool
 }
 
 // What a pass over the records has seen: something wrong, or an unused record, after which no used one may stand.
-#[derive(Drop)]
+#[derive(Clone, Copy)]
 pub struct Seen {
     pub wrong: bool,
     pub gap: bool,
@@ -38,7 +38,7 @@ pub(crate) fn seen_after(seen: Seen, r: Record, again: bool) -> Seen
 }
 
 // What a report answers, and the record after it.
-#[derive(Drop)]
+#[derive(Clone, Copy)]
 pub struct Report {
     pub refusal: u8,
     pub after: Record,
@@ -75,7 +75,7 @@ pub(crate) fn absent(wrong: bool, time: u64) -> u8
 }
 
 // Where a cookie is to stand, and which record leaves for it; past the end, none.
-#[derive(Drop)]
+#[derive(Clone, Copy)]
 pub struct JoinPlace {
     pub leaving: usize,
     pub at: usize,

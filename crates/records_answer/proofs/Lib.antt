@@ -4,5 +4,4 @@ pub mod Ways
 pub mod Answering
 pub mod Runs
 pub mod Sending
-pub mod Values
 pub mod Deciding

@@ -4,7 +4,7 @@ use mathlib.Core.List.{List, [], ◌++◌}
 use Prim.Native.Nat.{ℕ, zero, suc, ◌-◌, ◌≤◌}
 use native.Mathlib.Omega.{arith}
 use borrow.Rule.Slice.PartMut.{put_mid}
-use borrow.Author.Tests.{eq-eqb, ne_eqb, ltb-false}
+use borrow.Author.Tests.{eq-eqb, ltb-false}
 use lib.ListN.{length, take, drop}
 use Rattle.header.specs.Edition.{Within}
 use Rattle.header.specs.Header.{header_of, header_octets, refusal, reading, written}
@@ -17,7 +17,7 @@ use Rattle.chain.proofs.Datagrams.{header-passes}
 use Rattle.answer_fields.specs.Fields.{fields_written}
 use Rattle.responder_rules.specs.Answer.{Given, asking, answer_header, wrong_arguments, arguments_refusal}
 use Rattle.responder_rules.specs.declared.Server.{Server}
-use Rattle.responder_rules.specs.declared.Answered.TheVariants.{Written, Refused as RefusedAnswer}
+use Rattle.responder_rules.specs.declared.Answered.TheVariants.{Written}
 use Rattle.responder_rules.proofs.Accepting.{not-given}
 use Rattle.header.proofs.Refusals.{in-room}
 use Rattle.responder.proofs.Writing.{request-size, answer-put}
@@ -40,14 +40,6 @@ sound-reading d server s filter information receive estimate n e z =
     rw (header-passes s 3 (not-given (wrong_arguments d server filter information receive estimate) 5 (sound_refusal s 3) q).1, q)
 
 -- ---- sending
-
--- one case is not the other
-pub fields-only : {r : Reading} {h : Header} {n : ℕ} → r ≡ Fields h → r ≡ Refused n → ⊥
-fields-only {r} e q = absurd (omega (arith, sym (ap tag e) ∙ ap tag q))
-  where
-    tag : Reading → ℕ
-    tag (Fields h) = 1
-    tag (Refused n) = 0
 
 -- the header of an answer is written, over as many octets as a sound request has
 header-put : (h : Header) (s out : List ℕ) → sound_refusal s 3 ≡ 0 → length out ≡ length s → h.leap ≤ 3 → h.mode ≡ 4
@@ -81,6 +73,3 @@ module _ {checked : Reading} (g : Given) (out : List ℕ) (ready : Ready checked
     pub all-sent : {k : ℕ} {l m : List ℕ} → (k, l) ≡ written h (take (length g.request - 0) (drop 0 out)) → m ≡ fields_written g.edition g.request g.filter g.information l
         → outcome (Written (length g.request)) (put_mid 0 (length g.request - 0) out m) [] ≡ answer_sent g step out
     all-sent {k} {l} {m} w f = rw (lent_back out m (length g.request), part-sent w f, eq-eqb step.refusal 0 z)
-
-pub none-sent : (g : Given) (out : List ℕ) (step : AnswerStep) → (step.refusal ≡ 0 → ⊥) → outcome (RefusedAnswer step.refusal) out [] ≡ answer_sent g step out
-none-sent g out step z = rw (ne_eqb step.refusal 0 z)

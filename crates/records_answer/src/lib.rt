@@ -1,5 +1,7 @@
 // The answer to a request, R-4 to R-20, in either edition, W204-13, with the saved timestamps of interleaved mode in a lent slice of
 // records, G-9.
+#![tactic(auto)]
+
 mod datagram;
 
 ghost use Rattle.std.specs.Prelude.{◌≡◌};

@@ -5,7 +5,7 @@ use text::{part, rest};
 
 // The record that comes next: its number, from 1 on (W208-11), and where it stands in the window; how much of the window has been
 // read; whether more of the input is wanted; whether the input has ended, and whether the replay has.
-#[derive(Drop)]
+#[derive(Clone, Copy)]
 struct State {
     number: u64,
     at: usize,

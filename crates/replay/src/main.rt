@@ -1,5 +1,7 @@
 // W208-14: replays the trace in the file that its argument names or from standard input on a cleared table, and prints a line for each
 // record: see docs/REPLAY.md.
+#![tactic(auto)]
+
 mod input;
 mod lines;
 

@@ -1,4 +1,6 @@
 // The responder: the answer to a request, R-4 to R-20, in either edition, W204-13, with the saved timestamps of interleaved mode.
+#![tactic(auto)]
+
 pub mod named;
 mod saved;
 

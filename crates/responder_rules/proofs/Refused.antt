@@ -4,7 +4,6 @@ use mathlib.Core.Bool.{Bool, true, false, not, ◌||◌}
 use mathlib.Core.List.{List}
 use Prim.Native.Nat.{ℕ}
 use lib.Dec.{eqb}
-use Rattle.header.specs.Header.{refusal}
 use Rattle.octets.specs.Among.{among}
 use Rattle.octets.proofs.Tests.{by-test}
 use Rattle.chain.proofs.Refusals.{sound-number}

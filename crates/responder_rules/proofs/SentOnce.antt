@@ -142,7 +142,10 @@ module _ {s : List ℕ} {n : ℕ} {unsent row : List Record} (w : Stores s n row
 all-sent-once : {s : List ℕ} {n : ℕ} {unsent row : List Record} (cs : List Call) → AllTyped cs → Stores s n row → TimesUnsent unsent row → each_sent_once unsent (observations step_store cs s) ≡ true
 unfolding each_sent_once observations
 all-sent-once [] t w o = refl
-all-sent-once {s} (c ∷ cs) t w o = let p = next w o c t.0 in p.continues (observations step_store cs (step_store c s).store) ∙ all-sent-once cs t.1 p.stores p.times
+all-sent-once {s} {n} (c ∷ cs) t w o =
+    let p = next w o c t.0 in
+    p.continues (observations step_store cs (step_store c s).store)
+    ∙ all-sent-once {s = (step_store c s).store} {n = n} {unsent = p.unsent-after} {row = p.row} cs t.1 p.stores p.times
 
 -- a store that holds some row
 pub record Holds (s : List ℕ) (n : ℕ) : Type 0 where

@@ -1,8 +1,9 @@
 // The answer, R-4 to R-20: specs/ defines it and says what holds of it, proofs/ that it does. There is no code, only the answer's types.
+#![tactic(auto)]
 
 // R-4: what a server says of its clock in every answer.
 #[repr(C)]
-#[derive(Drop)]
+#[derive(Clone, Copy)]
 pub struct Server {
     pub leap: u8,
     pub stratum: u8,
@@ -17,7 +18,7 @@ pub struct Server {
     pub root_dispersion: u32,
 }
 
-#[derive(Drop)]
+#[derive(Clone, Copy)]
 pub enum Answered {
     // So many octets were written, as many as the request has.
     Written(u16),

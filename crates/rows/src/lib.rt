@@ -7,6 +7,8 @@
 //   -            no word: the signature of a call that has none
 //   I            octets that the call reads
 //   O            octets that the call may change, at most one word of a call
+#![tactic(auto)]
+
 ghost use Rattle.std.specs.Prelude.{◌≡◌};
 ghost use Rattle.rows.specs.Rows.{mode_problem, octets_problem, problem_of, row_number, fault_of, found_of, call_number};
 
@@ -31,7 +33,7 @@ const NO_MODE: u8 = 10;
 pub const NONE: usize = 64;
 
 // The number of a line's call, from 0 on; and what is wrong with which word of the line, counted from 1.
-#[derive(Drop)]
+#[derive(Clone, Copy)]
 struct Found {
     call: usize,
     word: usize,

@@ -6,7 +6,7 @@ use Prim.Native.Nat.{ℕ}
 use lib.Dec.{eqb, ltb}
 use lib.ListN.{length}
 use Rattle.header.specs.Edition.{is_edition, edition_of, over_limits}
-use Rattle.header.specs.Header.{header_of, refusal, reading, written, read_named, written_named}
+use Rattle.header.specs.Header.{header_of, reading, written, read_named, written_named}
 use Rattle.header.specs.declared.Reading.{Reading}
 use Rattle.octets.specs.Among.{among}
 use Rattle.header.proofs.Refusals.{header-number}

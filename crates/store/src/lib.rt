@@ -1,4 +1,6 @@
 // The responder's saved timestamps, R-1 to R-3, on lent octets: a record is 16 octets, a server cookie and its transmit time.
+#![tactic(auto)]
+
 ghost use Rattle.std.specs.Prelude.{◌≡◌};
 ghost use Rattle.store_rules.specs.Row.{cleared, reporting};
 

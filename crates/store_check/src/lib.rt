@@ -1,4 +1,6 @@
 // The store part of refusal 6: N-10 and N-14.
+#![tactic(auto)]
+
 ghost use Rattle.std.specs.Prelude.{◌≡◌, ◌+◌, ◌-◌, ◌/◌, ◌%◌, ◌≤◌, eqb, length};
 ghost use Rattle.octets.specs.Number.{num};
 ghost use Rattle.store_rules.specs.Row.{held, records_from, all_unused, wrong_size, wrong_store};

@@ -1,4 +1,6 @@
 // The row's records by their places in the octets. Each function takes any octets.
+#![tactic(auto)]
+
 ghost use Rattle.std.specs.Prelude.{◌≡◌, ◌+◌, ◌-◌, ◌≤◌, length, drop};
 ghost use Rattle.std.proofs.Math.Seq.{paste};
 ghost use Rattle.store_rules.specs.Place.{place_of, removed, joined_octets};

@@ -7,7 +7,7 @@ use crate::{find, part};
 // The line that is being gathered: its number from 1 on, its length so far, whether its comment has begun, and
 // whether it has ended; how much of the input was read last, and how far it was gathered; and whether the input
 // has ended. The line's length may go past its buffer: it is then too long.
-#[derive(Drop)]
+#[derive(Clone, Copy)]
 pub struct Line {
     pub number: u64,
     pub size: usize,

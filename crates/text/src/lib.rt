@@ -1,4 +1,6 @@
 // Looking through text. These functions ask nothing of their numbers: what is past an end is empty.
+#![tactic(auto)]
+
 pub mod gather;
 
 ghost use Rattle.std.specs.Prelude.{◌≡◌, drop};

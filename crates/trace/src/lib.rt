@@ -1,4 +1,6 @@
 // A trace of client calls, W-208: what it begins with.
+#![tactic(auto)]
+
 ghost use Rattle.std.specs.Prelude.{◌≡◌, ◌+◌, ◌≤◌, length};
 ghost use Rattle.trace_rules.specs.Record.{head_length, data_size, wrong_mode, action_of, found_of_kind, found_in};
 

@@ -14,11 +14,11 @@ use Rattle.octets.proofs.Tests.{by-test, by-outcome}
 use Rattle.octets.proofs.Written.{drop-octets}
 use Rattle.trace_rules.specs.Record.{mark, head_length, is_kind, data_size, wrong_mode, found_of_kind, found_in, data_in, rest_after}
 use Rattle.trace_rules.specs.Written.{entry_octets}
-use Rattle.trace_rules.specs.Replay.{made_by, replay_found, replay_at}
+use Rattle.trace_rules.specs.Replay.{replay_found, replay_at}
 use Rattle.trace_rules.specs.Claim.{ReadInPieces}
 use Rattle.trace_rules.specs.declared.Record.{Record}
 use Rattle.trace_rules.specs.declared.Fault.{Fault}
-use Rattle.trace_rules.specs.declared.Fault.TheVariants.{Mark, Kind, Length, Cut}
+use Rattle.trace_rules.specs.declared.Fault.TheVariants.{Mark, Cut}
 use Rattle.trace_rules.specs.declared.Found.{Found}
 use Rattle.trace_rules.specs.declared.Found.TheVariants.{Call, End, Wrong}
 use Rattle.trace_rules.proofs.Entries.{entry_record, entry_found, entry-data}

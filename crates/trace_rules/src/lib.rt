@@ -1,9 +1,11 @@
 // A trace of client calls, W-208: specs/ defines its records, the calls that it is and its replay, and says what holds of them, proofs/ that
 // it does. There is no code, only the types of a record.
+#![tactic(auto)]
+
 use header::ClientCookie;
 
 // W208-4: the call that a record stands for, but for the association and, of `Receive`, the datagram.
-#[derive(Drop)]
+#[derive(Clone, Copy)]
 pub enum Action {
     // The edition, the timescale and the chunk size.
     Open(u8, u8, u16),
@@ -16,7 +18,7 @@ pub enum Action {
     Close,
 }
 
-#[derive(Drop)]
+#[derive(Clone, Copy)]
 pub struct Record {
     pub association: u8,
     pub action: Action,
@@ -25,7 +27,7 @@ pub struct Record {
 }
 
 // W208-6: what is wrong with a record.
-#[derive(Drop)]
+#[derive(Clone, Copy)]
 pub enum Fault {
     Mark,
     Kind,
@@ -34,7 +36,7 @@ pub enum Fault {
 }
 
 // What a trace begins with.
-#[derive(Drop)]
+#[derive(Clone, Copy)]
 pub enum Found {
     Call(Record),
     End,

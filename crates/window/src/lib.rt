@@ -1,4 +1,6 @@
 // The part of a trace that a program holds while it reads on: the octets that were read and not yet replayed stand at its start.
+#![tactic(auto)]
+
 ghost use Rattle.std.specs.Prelude.{◌≡◌, ◌+◌, ◌≤◌, length, drop};
 ghost use Rattle.std.proofs.Math.Seq.{paste};
 ghost use Rattle.window.specs.Window.{empty_window, kept};

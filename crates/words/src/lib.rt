@@ -1,4 +1,6 @@
 // Words of a line that are numbers, octets or modes.
+#![tactic(auto)]
+
 pub mod line;
 pub mod mode;
 pub mod number;

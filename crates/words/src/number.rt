@@ -11,7 +11,7 @@ pub const NOT_A_NUMBER: u8 = 4;
 pub const OUT_OF_RANGE: u8 = 5;
 
 // A word's value: a number, or how many octets it has; and what is wrong with it, or 0.
-#[derive(Drop)]
+#[derive(Clone, Copy)]
 pub struct Value {
     pub value: u64,
     pub problem: u8,

@@ -16,7 +16,7 @@ pub const TOO_MANY_OCTETS: u8 = 8;
 
 // A pair at a text's start: how often its octet stands, how much text says so, with a comma after it, and what is
 // wrong with it.
-#[derive(Drop)]
+#[derive(Clone, Copy)]
 pub struct Run {
     pub times: u64,
     pub end: usize,

@@ -1,0 +1,12 @@
+-- `after_mac` meets its contract: no field before the cursor is wrong, so that the walk from there on ends as the whole. Assumes nothing.
+use mathlib.Core.Path.{◌≡◌}
+use Prim.Native.Nat.{◌-◌}
+use lib.ListN.{length}
+use Rattle.chain.specs.Chain.{step_refusal, walk}
+use Rattle.chain.proofs.after_mac.Given as goal
+
+abbrev pub invariant-loop-cursor : goal.invariant-loop-cursor
+invariant-loop-cursor l = step_refusal (walk l.rest l.cursor.at).stop ≡ step_refusal (walk l.rest l.start).stop
+
+abbrev pub decreases-loop-cursor : goal.decreases-loop-cursor
+decreases-loop-cursor l = length l.rest - l.cursor.at

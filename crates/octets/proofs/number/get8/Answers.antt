@@ -1,0 +1,20 @@
+-- `get8` meets its contract: the test decides which case holds. Assumes nothing.
+use mathlib.Core.Path.{sym, ◌∙◌}
+use Prim.Native.Nat.{◌+◌, ◌≤◌}
+use native.Mathlib.Omega.{arith}
+use lib.ListN.{length}
+use Rattle.octets.proofs.Numbers.{num-one}
+use Rattle.octets.proofs.Parts.{room}
+use Rattle.octets.proofs.number.get8.Goals as goal
+
+pub bounds-s-at : goal.bounds-s-at
+bounds-s-at c =
+    let a = c.args in
+    let h : a.at + 1 ≤ length a.s.now = room _ _ c.has_room.ensures c.if-has_room.true in
+    omega arith
+
+pub returns-then-has_room : goal.returns-then-has_room
+returns-then-has_room c = rw (sym c.has_room.ensures ∙ c.if-has_room.true) (sym (num-one _ _))
+
+pub returns-else-has_room : goal.returns-else-has_room
+returns-else-has_room c = rw (sym c.has_room.ensures ∙ c.if-has_room.false)

@@ -1,0 +1,13 @@
+-- `put64` meets its contract: the test decides which case holds. Assumes nothing.
+use mathlib.Core.Path.{sym, ◌∙◌}
+use Rattle.octets.proofs.Parts.{room}
+use Rattle.octets.proofs.number.put64.Goals as goal
+
+pub write64-requires : goal.write64-requires
+write64-requires c = room _ _ c.has_room.ensures c.if-has_room.true
+
+pub returns-then-has_room : goal.returns-then-has_room
+returns-then-has_room c = rw (sym c.has_room.ensures ∙ c.if-has_room.true) c.write64.ensures
+
+pub returns-else-has_room : goal.returns-else-has_room
+returns-else-has_room c = rw (sym c.has_room.ensures ∙ c.if-has_room.false)

@@ -1,2 +1,0 @@
--- The laws that the code's proofs cite. Assumes nothing.
-pub mod Actions
