@@ -9,10 +9,12 @@
 //   O            octets that the call may change, at most one word of a call
 #![tactic(auto)]
 
-ghost use Rattle.std.specs.Prelude.{◌≡◌};
+ghost use Rattle.std.specs.Prelude.{◌≡◌, IfOk};
 ghost use Rattle.rows.specs.Rows.{mode_problem, octets_problem, problem_of, row_number, fault_of, found_of, call_number};
 
 use octets::number::get8;
+use std::io;
+use std::io::Write;
 use text::{part, piece, same};
 use words::number::read;
 use words::octet_word::write;
@@ -141,17 +143,23 @@ fn find(rows: &[u8], line: &[u8]) -> Found
 }
 
 // The call of the line of this length and number. What is wrong with a line is printed, and the line is then no call.
-pub fn call_of(rows: &[u8], line: &[u8], length: usize, number: u64) -> usize
-    ensures { result ≡ call_number rows.now line.now length }
+pub fn call_of<W: Write>(
+    to: &mut W,
+    rows: &[u8],
+    line: &[u8],
+    length: usize,
+    number: u64,
+) -> io::Result<usize>
+    ensures { IfOk result (λ call. call ≡ call_number rows.now line.now length) }
 {
     if length > line.len() {
-        print::problem(number, 0, TOO_LONG);
-        return NONE;
+        print::problem(to, number, 0, TOO_LONG)?;
+        return Ok(NONE);
     }
     let found = find(rows, part(line, 0, length));
     if found.problem != 0 {
-        print::problem(number, found.word, found.problem);
-        return NONE;
+        print::problem(to, number, found.word, found.problem)?;
+        return Ok(NONE);
     }
-    found.call
+    Ok(found.call)
 }
