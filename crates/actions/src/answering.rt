@@ -8,6 +8,8 @@ ghost use Rattle.actions.specs.Kept.{store_answered};
 use header::ServerCookie;
 use print::convert::from_u16;
 use responder::{Answered, Server};
+use std::io;
+use std::io::Write;
 use text::piece;
 use words::line::{i8_at, i16_at, u8_at, u16_at, u32_at, u64_at};
 use words::octet_word::octets_of;
@@ -65,21 +67,22 @@ fn answer_into(
     )
 }
 
-fn show(row: &[u8], answered: Answered, output: &[u8]) {
+fn show<W: Write>(to: &mut W, row: &[u8], answered: Answered, output: &[u8]) -> io::Result<()> {
     match answered {
-        Answered::Refused(number) => print::result(row, number, row),
-        Answered::Written(length) => print::line(row, &[0, from_u16(length), 0], output),
+        Answered::Refused(number) => print::result(to, row, number, row),
+        Answered::Written(length) => print::line(to, row, &[0, from_u16(length), 0], output),
     }
 }
 
-fn answer_to(
+fn answer_to<W: Write>(
+    to: &mut W,
     row: &[u8],
     line: &[u8],
     request: &[u8],
     filter: &[u8],
     information: &[u8],
     store: &mut [u8],
-)
+) -> io::Result<()>
     ensures { store.new
         ≡ (answer_named (bits_at 8 line.now 1) (given_from line.now request.now filter.now information.now)
         store.old (octets_at line.now 18)).store }
@@ -87,11 +90,16 @@ fn answer_to(
     let mut room = [0u8; 4096];
     let output = octets_of(piece(line, 18, b' '), &mut room);
     let answered = answer_into(line, request, filter, information, output, store);
-    show(row, answered, output);
+    show(to, row, answered, output)
 }
 
 // The octet words that an answer reads; the output has a function of its own.
-pub(crate) fn answer(row: &[u8], line: &[u8], store: &mut [u8])
+pub(crate) fn answer<W: Write>(
+    to: &mut W,
+    row: &[u8],
+    line: &[u8],
+    store: &mut [u8],
+) -> io::Result<()>
     ensures { store.new ≡ store_answered line.now store.old }
 {
     let mut first = [0u8; 4096];
@@ -100,5 +108,5 @@ pub(crate) fn answer(row: &[u8], line: &[u8], store: &mut [u8])
     let request = octets_of(piece(line, 2, b' '), &mut first);
     let filter = octets_of(piece(line, 16, b' '), &mut second);
     let information = octets_of(piece(line, 17, b' '), &mut third);
-    answer_to(row, line, request, filter, information, store);
+    answer_to(to, row, line, request, filter, information, store)
 }

@@ -10,6 +10,8 @@ ghost use Rattle.actions.specs.Kept.{length_of, store_reported, store_after, kep
 
 use header::ServerCookie;
 use octets::{number, part};
+use std::io;
+use std::io::Write;
 use text::piece;
 use words::line::{u8_at, u64_at};
 use words::octet_word::octets_of;
@@ -35,7 +37,7 @@ fn clear(line: &[u8], kept: &mut [u8]) -> u8
 }
 
 // lend OCTETS
-fn lend(row: &[u8], line: &[u8], kept: &mut [u8])
+fn lend<W: Write>(to: &mut W, row: &[u8], line: &[u8], kept: &mut [u8]) -> io::Result<()>
     ensures { kept.new ≡ kept_lent (octets_at line.now 1) kept.old }
 {
     let mut room = [0u8; 4096];
@@ -43,39 +45,51 @@ fn lend(row: &[u8], line: &[u8], kept: &mut [u8])
     let n = octets.len() % 4097;
     number::put16(kept, 0, n as u16);
     part::copy(kept, 2, octets, 0, n);
-    print::line(row, &[0], octets);
+    print::line(to, row, &[0], octets)
 }
 
 // report COOKIE TIME
-fn report(row: &[u8], line: &[u8], store: &mut [u8])
+fn report<W: Write>(to: &mut W, row: &[u8], line: &[u8], store: &mut [u8]) -> io::Result<()>
     ensures { store.new ≡ store_reported line.now store.old }
 {
     let refusal = store::report(store, ServerCookie(u64_at(line, 1)), u64_at(line, 2));
-    print::result(row, refusal, store);
+    print::result(to, row, refusal, store)
 }
 
 // The calls that the store itself is lent to.
-fn on_store(call: usize, row: &[u8], line: &[u8], store: &mut [u8])
+fn on_store<W: Write>(
+    to: &mut W,
+    call: usize,
+    row: &[u8],
+    line: &[u8],
+    store: &mut [u8],
+) -> io::Result<()>
     ensures { store.new ≡ store_after call line.now store.old }
 {
     match call {
-        17 => report(row, line, store),
-        _ => answering::answer(row, line, store),
+        17 => report(to, row, line, store),
+        _ => answering::answer(to, row, line, store),
     }
 }
 
-// The call of this number, and its result. What is printed is outside the logic. Octets too few for the longest store stay as
-// they are.
-pub fn run(call: usize, row: &[u8], line: &[u8], kept: &mut [u8])
+// The call of this number, and its result. What is printed is not stated; where it can't be, the call is made all the same.
+// Octets too few for the longest store stay as they are.
+pub fn run<W: Write>(
+    to: &mut W,
+    call: usize,
+    row: &[u8],
+    line: &[u8],
+    kept: &mut [u8],
+) -> io::Result<()>
     ensures { kept.new ≡ kept_after call line.now kept.old }
 {
     if kept.len() < 4098 {
-        return;
+        return Ok(());
     }
     let end = end(kept);
     match call {
-        15 => print::result(row, clear(line, kept), row),
-        16 => lend(row, line, kept),
-        _ => on_store(call, row, line, &mut kept[2..end]),
+        15 => print::result(to, row, clear(line, kept), row),
+        16 => lend(to, row, line, kept),
+        _ => on_store(to, call, row, line, &mut kept[2..end]),
     }
 }

@@ -11,6 +11,8 @@ ghost use Rattle.client.specs.Answers.{is_interleaved};
 ghost use Rattle.changes.specs.Change.{interleaved_at, poll_of, receive_of, change_of, table_after};
 
 use header::ClientCookie;
+use std::io;
+use std::io::Write;
 use text::piece;
 use words::line::{i8_at, u8_at, u16_at, u64_at};
 use words::octet_word::octets_of;
@@ -44,7 +46,7 @@ fn change(call: usize, line: &[u8], table: &mut [u64]) -> u8
 }
 
 // poll A COOKIE EXPONENT MODE OUTPUT
-fn poll(row: &[u8], line: &[u8], table: &mut [u64])
+fn poll<W: Write>(to: &mut W, row: &[u8], line: &[u8], table: &mut [u64]) -> io::Result<()>
     ensures { table.new ≡ (step_numbers (poll_of line.now) table.old).1 }
 {
     let mut room = [0u8; 4096];
@@ -57,26 +59,32 @@ fn poll(row: &[u8], line: &[u8], table: &mut [u64])
         mode_at(line, 4),
         output,
     );
-    answers::polled(row, polled, output);
+    answers::polled(to, row, polled, output)
 }
 
 // receive A T4 OCTETS
-fn receive(row: &[u8], line: &[u8], table: &mut [u64])
+fn receive<W: Write>(to: &mut W, row: &[u8], line: &[u8], table: &mut [u64]) -> io::Result<()>
     ensures { table.new ≡ (step_numbers (receive_of line.now) table.old).1 }
 {
     let mut room = [0u8; 4096];
     let datagram = octets_of(piece(line, 3, b' '), &mut room);
     let received = client::receive(table, u8_at(line, 1), datagram, u64_at(line, 2));
-    answers::received(row, received);
+    answers::received(to, row, received)
 }
 
-// The call of this number, and its result. What is printed is outside the logic.
-pub fn run(call: usize, row: &[u8], line: &[u8], table: &mut [u64])
+// The call of this number, and its result. What is printed is not stated; where it can't be, the call is made all the same.
+pub fn run<W: Write>(
+    to: &mut W,
+    call: usize,
+    row: &[u8],
+    line: &[u8],
+    table: &mut [u64],
+) -> io::Result<()>
     ensures { table.new ≡ table_after call line.now table.old }
 {
     match call {
-        10 => poll(row, line, table),
-        12 => receive(row, line, table),
-        _ => print::result(row, change(call, line, table), row),
+        10 => poll(to, row, line, table),
+        12 => receive(to, row, line, table),
+        _ => print::result(to, row, change(call, line, table), row),
     }
 }

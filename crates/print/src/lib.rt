@@ -17,7 +17,7 @@ ghost use Rattle.std.specs.Prelude.{◌≡◌, ◌<◌, IfOk};
 
 use octets::number::{get8, put8};
 use std::io;
-use std::io::Write;
+use std::io::{Cursor, Write};
 use text::{find, part, piece, rest};
 
 // How many octets of a line are written at a time.
@@ -274,4 +274,27 @@ pub fn problem<W: Write>(to: &mut W, number: u64, word: usize, problem: u8) -> i
         &[number, 0, word as u64, 0, 0, 0, 0, 0],
         table,
     )
+}
+
+// The reason in an error's text, without the system's number of it, which stands behind it in parentheses.
+fn reason(text: &[u8]) -> &[u8] {
+    let mark = find(text, 0, b'(', true);
+    if mark < text.len() {
+        return part(text, 0, std::num::wrapping_sub_usize(mark, 1));
+    }
+    text
+}
+
+// What can't be opened or read, and why.
+pub fn failure<W: Write>(to: &mut W, what: &[u8], error: io::Error) -> io::Result<()>
+    ensures { IfOk result (λ r. r ≡ tt) }
+{
+    let mut told = Cursor::new([0u8; 256]);
+    write!(told, "{error}")?;
+    let n = told.position() as usize;
+    let text = told.into_inner();
+    to.write_all(what)?;
+    to.write_all(b": ")?;
+    to.write_all(reason(part(&text, 0, n)))?;
+    to.write_all(b"\n")
 }

@@ -1,4 +1,6 @@
 // The calls that change an output buffer, whose octets stand in the line: write, add, union and publish.
+use std::io;
+use std::io::Write;
 use words::line::{i8_at, i16_at, u8_at, u16_at, u32_at, u64_at, word_of};
 use words::octet_word::octets_of;
 
@@ -44,9 +46,16 @@ fn change(call: usize, line: &[u8], octets: &[u8], output: &mut [u8], table: &[u
 }
 
 // The call of this number on the octets of its letter O, which are printed afterwards.
-pub(crate) fn make(call: usize, row: &[u8], line: &[u8], octets: &[u8], table: &[u64]) {
+pub(crate) fn make<W: Write>(
+    to: &mut W,
+    call: usize,
+    row: &[u8],
+    line: &[u8],
+    octets: &[u8],
+    table: &[u64],
+) -> io::Result<()> {
     let mut room = [0u8; 4096];
     let output = octets_of(word_of(line, row, b'O'), &mut room);
     let refusal = change(call, line, octets, output, table);
-    print::result(row, refusal, output);
+    print::result(to, row, refusal, output)
 }
