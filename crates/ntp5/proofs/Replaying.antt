@@ -1,12 +1,9 @@
 -- A record's call that was made, and a place where none was. Assumes nothing.
 use mathlib.Core.Path.{◌≡◌, refl, sym, ap, ◌∙◌}
-use mathlib.Core.List.{List, [], ◌∷◌}
-use mathlib.Core.Logic.{⊎_elim}
+use mathlib.Core.List.{List, []}
 use Prim.Native.Nat.{ℕ, ◌+◌, ◌≤◌}
 use native.Mathlib.Omega.{arith}
-use denote.Enum.Declared.{tag_of}
 use lib.ListN.{length, drop, length-drop}
-use types.Run.{OneOf}
 use Rattle.client_rules.specs.Call.{Answer}
 use Rattle.client_rules.specs.Numbers.{step_numbers}
 use Rattle.trace_rules.specs.Record.{head_length, found_in, data_in, action_call, lent_after}
@@ -15,8 +12,6 @@ use Rattle.trace_rules.specs.declared.Action.{Action}
 use Rattle.trace_rules.specs.declared.Record.{Record}
 use Rattle.trace_rules.specs.declared.Found.{Found}
 use Rattle.trace_rules.specs.declared.Found.TheVariants.{Call, End, Wrong}
-use Rattle.trace_rules.specs.contracts.Found.{the_type}
-use Rattle.trace_rules.proofs.Faults.{end-no-call, wrong-no-call}
 use Rattle.trace_rules.proofs.Listings.{at-end}
 use Rattle.c_structs.specs.Replayed.{made_numbers, replayed_numbers, replay_left}
 use Rattle.c_structs.specs.declared.replayed.Replayed.{Replayed}
@@ -59,9 +54,3 @@ module _ (trace : List ℕ) (at : ℕ) (out t : List ℕ) where
 -- past the end of a trace nothing is found
 pub past_end : (trace : List ℕ) (at : ℕ) → length trace ≤ at → found_in (drop at trace) ≡ End
 past_end trace at h = at-end (drop at trace) (length-drop at trace ∙ omega arith)
-
--- what is not a call, as the code's `else` branch knows it
-pub no_call : (f : Found) → OneOf (1 ∷ 2 ∷ []) (tag_of the_type f) → (r : Record) → f ≡ Call r → ⊥
-no_call (Call r) o q e = ⊎_elim (λ e. omega arith) (λ e. omega arith) o
-no_call End o q e = end-no-call e
-no_call (Wrong f) o q e = wrong-no-call e

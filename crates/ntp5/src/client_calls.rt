@@ -8,42 +8,31 @@ use c_structs::answers;
 use c_structs::answers::{Received, Verdict, Written};
 use header::ClientCookie;
 
-#[unsafe(no_mangle)]
-pub extern "C" fn ntp5_table_words() -> usize
+pub fn ntp5_table_words() -> usize
     ensures { result ≡ table_size }
 {
     client::table_words()
 }
 
-#[unsafe(no_mangle)]
-pub extern "C" fn ntp5_clear(table: &mut [u64]) -> u8
+pub fn ntp5_clear(table: &mut [u64]) -> u8
     ensures { (plain_answer result [], table.new) ≡ step_numbers clear_table table.old }
 {
     client::clear(table)
 }
 
-#[unsafe(no_mangle)]
-pub extern "C" fn ntp5_open(
-    table: &mut [u64],
-    association: u8,
-    edition: u8,
-    timescale: u8,
-    chunk: u16,
-) -> u8
+pub fn ntp5_open(table: &mut [u64], association: u8, edition: u8, timescale: u8, chunk: u16) -> u8
     ensures { (plain_answer result [], table.new) ≡ step_numbers (open_one association edition timescale chunk) table.old }
 {
     client::open(table, association, edition, timescale, chunk)
 }
 
-#[unsafe(no_mangle)]
-pub extern "C" fn ntp5_close(table: &mut [u64], association: u8) -> u8
+pub fn ntp5_close(table: &mut [u64], association: u8) -> u8
     ensures { (plain_answer result [], table.new) ≡ step_numbers (close_one association) table.old }
 {
     client::close(table, association)
 }
 
-#[unsafe(no_mangle)]
-pub extern "C" fn ntp5_poll(
+pub fn ntp5_poll(
     table: &mut [u64],
     association: u8,
     client_cookie: u64,
@@ -65,20 +54,13 @@ pub extern "C" fn ntp5_poll(
     answers::of_polled(polled)
 }
 
-#[unsafe(no_mangle)]
-pub extern "C" fn ntp5_sent(table: &mut [u64], association: u8, t1: u64) -> u8
+pub fn ntp5_sent(table: &mut [u64], association: u8, t1: u64) -> u8
     ensures { (plain_answer result [], table.new) ≡ step_numbers (sent association t1) table.old }
 {
     client::sent(table, association, t1)
 }
 
-#[unsafe(no_mangle)]
-pub extern "C" fn ntp5_receive(
-    table: &mut [u64],
-    association: u8,
-    datagram: &[u8],
-    t4: u64,
-) -> Received
+pub fn ntp5_receive(table: &mut [u64], association: u8, datagram: &[u8], t4: u64) -> Received
     ensures { (received_numbers result, table.new) ≡ step_numbers (receive association datagram.now t4) table.old }
 {
     // The whole datagram, taken apart here: two exports use this one, and the compiler then hands it its address and its length, and not
@@ -87,15 +69,13 @@ pub extern "C" fn ntp5_receive(
     answers::of_received(received)
 }
 
-#[unsafe(no_mangle)]
-pub extern "C" fn ntp5_loop_verdict(table: &[u64], association: u8, id: &[u8]) -> Verdict
+pub fn ntp5_loop_verdict(table: &[u64], association: u8, id: &[u8]) -> Verdict
     ensures { (verdict_numbers result, table.now) ≡ step_numbers (loop_verdict association id.now) table.now }
 {
     answers::of_verdict(client::loop_verdict(table, association, id))
 }
 
-#[unsafe(no_mangle)]
-pub extern "C" fn ntp5_publish(table: &[u64], selected: u16, id: &[u8], out: &mut [u8]) -> Written
+pub fn ntp5_publish(table: &[u64], selected: u16, id: &[u8], out: &mut [u8]) -> Written
     ensures { (written_numbers result out.new, table.now) ≡ step_numbers (publish selected id.now out.old) table.now }
 {
     let published = client::publish(table, selected, id, out);

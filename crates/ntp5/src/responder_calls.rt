@@ -9,22 +9,19 @@ use c_structs::answers::Written;
 use header::ServerCookie;
 use responder::Server;
 
-#[unsafe(no_mangle)]
-pub extern "C" fn ntp5_store_clear(store: &mut [u8]) -> u8
+pub fn ntp5_store_clear(store: &mut [u8]) -> u8
     ensures { (result, store.new) ≡ cleared store.old }
 {
     store::clear(store)
 }
 
-#[unsafe(no_mangle)]
-pub extern "C" fn ntp5_report(store: &mut [u8], server_cookie: u64, time: u64) -> u8
+pub fn ntp5_report(store: &mut [u8], server_cookie: u64, time: u64) -> u8
     ensures { (result, store.new) ≡ reporting store.old server_cookie time }
 {
     store::report(store, ServerCookie(server_cookie), time)
 }
 
-#[unsafe(no_mangle)]
-pub extern "C" fn ntp5_answer(
+pub fn ntp5_answer(
     store: &mut [u8],
     edition: u8,
     request: &[u8],

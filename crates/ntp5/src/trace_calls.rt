@@ -41,13 +41,7 @@ fn make(table: &mut [u64], found: Record, datagram: &[u8], next: usize, out: &mu
 }
 
 // W208-13: the record at a place. A poll is lent `out` as it is.
-#[unsafe(no_mangle)]
-pub extern "C" fn ntp5_replay(
-    table: &mut [u64],
-    trace: &[u8],
-    at: usize,
-    out: &mut [u8],
-) -> Replayed
+pub fn ntp5_replay(table: &mut [u64], trace: &[u8], at: usize, out: &mut [u8]) -> Replayed
     ensures { (result, out.new, table.new) ≡ replay_left (replay_at trace.now at out.old table.old) }
 {
     if trace.len() <= at {
