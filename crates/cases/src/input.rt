@@ -1,44 +1,67 @@
 // The input as lines: each is gathered octet by octet and run when it ends.
 use crate::calls;
+use std::io;
+use std::io::{Read, Write};
 use text::gather::{Line, gather};
 use text::{part, piece};
 
+// How much of the input is read at a time at most, and the longest line.
+const ROOM: usize = 65536;
+
 // Reads more of the input if all that was read has been gathered. The end of the input ends a line. A read that fails is
-// said at once, before another call can change errno; it ends the input, and the line that it cut is not run.
-fn refill(file: i32, name: &[u8], text: &mut [u8], state: Line) -> Line {
+// said; it ends the input, and the line that it cut is not run.
+fn refill<R: Read, E: Write>(
+    file: &mut R,
+    name: &[u8],
+    errors: &mut E,
+    text: &mut [u8],
+    state: Line,
+) -> io::Result<Line> {
     if state.at < state.count {
-        return state;
+        return Ok(state);
     }
-    let got = libc::read(file, text);
-    if got < 0 {
-        os::fail(name);
+    let mut count = 0;
+    let mut ended = false;
+    match file.read(text) {
+        Ok(got) => {
+            count = got;
+            ended = got == 0;
+        }
+        Err(error) => print::failure(errors, name, error)?,
     }
-    let count = io::count(got, text);
-    Line {
+    Ok(Line {
         number: state.number,
         size: state.size,
         comment: state.comment,
-        ended: got == 0,
-        count: count,
+        ended,
+        count,
         at: 0,
         last: count == 0,
-    }
+    })
 }
 
 // Runs the line if it has ended.
-fn finish(rows: &[u8], line: &[u8], state: Line, table: &mut [u64], kept: &mut [u8]) -> Line {
+fn finish<W: Write>(
+    to: &mut W,
+    rows: &[u8],
+    line: &[u8],
+    state: Line,
+    table: &mut [u64],
+    kept: &mut [u8],
+) -> io::Result<Line> {
     if !state.ended {
-        return state;
+        return Ok(state);
     }
-    let call = rows::call_of(rows, line, state.size, state.number);
+    let call = rows::call_of(to, rows, line, state.size, state.number)?;
     calls::run(
+        to,
         call,
         piece(rows, call, b'\n'),
         part(line, 0, state.size),
         table,
         kept,
-    );
-    Line {
+    )?;
+    Ok(Line {
         number: std::num::wrapping_add_u64(state.number, 1),
         size: 0,
         comment: false,
@@ -46,14 +69,19 @@ fn finish(rows: &[u8], line: &[u8], state: Line, table: &mut [u64], kept: &mut [
         count: state.count,
         at: state.at,
         last: state.last,
-    }
+    })
 }
 
-// Reads the file of this name to its end. A proved loop has to end, and nothing says that the input does: so the
-// loop counts its turns down, from a number that no run uses up.
-pub(crate) fn run_all(file: i32, name: &[u8], rows: &[u8]) {
-    let mut text = io::large_buffer();
-    let mut line = io::large_buffer();
+// Reads the file of this name to its end. Nothing says that the input ends: so the loop has a bound, which no run uses up.
+pub(crate) fn run_all<R: Read, E: Write, W: Write>(
+    file: &mut R,
+    name: &[u8],
+    errors: &mut E,
+    to: &mut W,
+    rows: &[u8],
+) -> io::Result<()> {
+    let mut text = [0u8; ROOM];
+    let mut line = [0u8; ROOM];
     let mut table = [0u64; 1296];
     let mut kept = [0u8; 4098];
     let mut state = Line {
@@ -65,11 +93,13 @@ pub(crate) fn run_all(file: i32, name: &[u8], rows: &[u8]) {
         at: 0,
         last: false,
     };
-    let mut turns = u64::MAX;
-    while turns > 0 && !state.last {
-        turns -= 1;
-        state = refill(file, name, &mut text, state);
+    for _ in 0..u64::MAX {
+        if state.last {
+            break;
+        }
+        state = refill(file, name, errors, &mut text, state)?;
         state = gather(part(&text, 0, state.count), state, &mut line);
-        state = finish(rows, &line, state, &mut table, &mut kept);
+        state = finish(to, rows, &line, state, &mut table, &mut kept)?;
     }
+    Ok(())
 }

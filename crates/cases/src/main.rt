@@ -5,34 +5,53 @@
 mod calls;
 mod input;
 
-// The longest name that a file is opened by, without the 0 that ends it.
-const LONGEST_NAME: usize = libc::PATH_MAX - 1;
+use std::env::{Env, FillError};
+use std::fs::File;
+use std::io;
+
+// The longest name that a file is opened by.
+const LONGEST_NAME: usize = 4095;
 
 // Writes to standard error why nothing is run.
-fn refuse(why: &[u8]) {
-    io::write_all(libc::STDERR_FILENO, b"cases: ");
-    io::write_all(libc::STDERR_FILENO, why);
-    io::write_all(libc::STDERR_FILENO, b"; usage: cases [FILE]\n");
+fn refuse(rt: &HostRuntime, why: &str) -> io::Result<()> {
+    eprintln!(rt; "cases: {why}; usage: cases [FILE]")
 }
 
-// Runs the file that the argument names. Of a name that is empty, and of one that is too long, `arg` answers 0.
-fn run_file(rows: &[u8]) {
+// Runs the file of this name.
+fn run_file(rt: &HostRuntime, name: &[u8], rows: &[u8]) -> io::Result<()> {
+    match std::str::from_utf8(name) {
+        Err(_) => refuse(rt, "a file's name is UTF-8"),
+        Ok(path) => match File::open(rt, path) {
+            Err(error) => print::failure(&mut rt.stderr(), name, error),
+            Ok(mut file) => input::run_all(
+                &mut file,
+                name,
+                &mut rt.stderr(),
+                &mut rt.stdout(),
+                rows,
+            ),
+        },
+    }
+}
+
+// Runs the file that the argument names, or standard input where there is none.
+fn run(rt: &HostRuntime, rows: &[u8]) -> io::Result<()> {
     let mut name = [0u8; LONGEST_NAME];
-    let n = os::arg(1, &mut name);
-    if n == 0 {
-        refuse(b"a file's name has 1 to 4095 octets");
-        return;
+    match rt.arg(1, &mut name) {
+        Err(FillError::NotPresent) => input::run_all(
+            &mut rt.stdin(),
+            b"standard input",
+            &mut rt.stderr(),
+            &mut rt.stdout(),
+            rows,
+        ),
+        Ok(0) | Err(FillError::TooLong) => refuse(rt, "a file's name has 1 to 4095 octets"),
+        Ok(n) => run_file(rt, &name[..n], rows),
     }
-    let file = os::open_read(&name[0..n]);
-    if file < 0 {
-        os::fail(&name[0..n]);
-        return;
-    }
-    input::run_all(file, &name[0..n], rows);
 }
 
 // The rows of the calls, with each word's letter (crate rows) and the form of the result line (crate print).
-fn main() {
+fn main(rt: HostRuntime) -> io::Result<()> {
     let rows =
         b"header bbI %r leap=%d mode=%d stratum=%d poll=%i precision=%i timescale=%d era=%d flags=0x%h \
         root_delay=0x%w root_dispersion=0x%w server_cookie=0x%q client_cookie=0x%q receive=0x%q transmit=0x%q timescale_offset=%i\n\
@@ -54,9 +73,8 @@ fn main() {
         lend I %o\n\
         report qq %d %o\n\
         answer bIqqqbbssbbhwwtIIO %r %d %o\n";
-    match os::arg_count() {
-        0 | 1 => input::run_all(libc::STDIN_FILENO, b"standard input", rows),
-        2 => run_file(rows),
-        _ => refuse(b"one file at most"),
+    match rt.arg(2, &mut []) {
+        Err(FillError::NotPresent) => run(&rt, rows),
+        _ => refuse(&rt, "one file at most"),
     }
 }

@@ -1,7 +1,9 @@
 // The input as records: each is replayed once it is there whole.
 use crate::lines;
 use ntp5::trace_calls::ntp5_replay;
-use text::{part, rest};
+use std::io;
+use std::io::{Read, Write};
+use text::part;
 
 // The record that comes next: its number, from 1 on (W208-11), and where it stands in the window; how much of the window has been
 // read; whether more of the input is wanted; whether the input has ended, and whether the replay has.
@@ -16,62 +18,83 @@ struct State {
 }
 
 // Reads into the window from a place on.
-fn read_on(file: i32, window: &mut [u8], from: usize) -> isize {
+fn read_on<R: Read>(file: &mut R, window: &mut [u8], from: usize) -> io::Result<usize> {
     if window.len() <= from {
-        return 0;
+        return Ok(0);
     }
-    libc::read(file, &mut window[from..])
+    file.read(&mut window[from..])
 }
 
-// Where more is wanted, moves what is not yet replayed to the start of the window and reads on behind it. A read that fails is said at
-// once, before another call can change errno; it ends the replay, and the record that it cut is not told.
-fn refill(file: i32, name: &[u8], window: &mut [u8], state: State) -> State {
+// Where more is wanted, moves what is not yet replayed to the start of the window and reads on behind it. A read that fails is said;
+// it ends the replay, and the record that it cut is not told.
+fn refill<R: Read, E: Write>(
+    file: &mut R,
+    name: &[u8],
+    errors: &mut E,
+    window: &mut [u8],
+    state: State,
+) -> io::Result<State> {
     if !state.wanting {
-        return state;
+        return Ok(state);
     }
     let kept = window::keep(window, state.at, state.count);
-    let got = read_on(file, window, kept);
-    if got < 0 {
-        os::fail(name);
+    let mut more = 0;
+    let mut failed = false;
+    match read_on(file, window, kept) {
+        Ok(got) => more = got,
+        Err(error) => {
+            failed = true;
+            print::failure(errors, name, error)?;
+        }
     }
-    let more = io::count(got, rest(window, kept));
-    State {
+    Ok(State {
         number: state.number,
         at: 0,
         count: std::num::wrapping_add_usize(kept, more),
         wanting: false,
         ended: more == 0,
-        last: got < 0,
-    }
+        last: failed,
+    })
 }
 
 // Replays the record that comes next and prints its line. Where the window ends in it, or before it, more is wanted first, as long as
 // there is more: what is wrong with a record in the window is wrong with it, whatever follows.
-fn step(window: &[u8], state: State, table: &mut [u64], out: &mut [u8]) -> State {
+fn step<W: Write>(
+    to: &mut W,
+    window: &[u8],
+    state: State,
+    table: &mut [u64],
+    out: &mut [u8],
+) -> io::Result<State> {
     if state.last {
-        return state;
+        return Ok(state);
     }
     let record = ntp5_replay(table, part(window, 0, state.count), state.at, out);
     let made = record.state == 1;
     let wanting = !state.ended & ((record.state == 0) | (record.state == 5));
     let mut number = state.number;
     if !wanting {
-        lines::record(number, record, out);
+        lines::record(to, number, record, out)?;
         number = std::num::wrapping_add_u64(number, 1);
     }
-    State {
+    Ok(State {
         number,
         at: record.next,
         count: state.count,
         wanting,
         ended: state.ended,
         last: !made & !wanting,
-    }
+    })
 }
 
-// Replays the file of this name to its end or its first wrong record. A proved loop has to end, and nothing says that the input does: so
-// the loop counts its turns down, from a number that no run uses up.
-pub(crate) fn replay_all(file: i32, name: &[u8]) {
+// Replays the file of this name to its end or its first wrong record. Nothing says that the input ends: so the loop has a bound, which
+// no run uses up.
+pub(crate) fn replay_all<R: Read, E: Write, W: Write>(
+    file: &mut R,
+    name: &[u8],
+    errors: &mut E,
+    to: &mut W,
+) -> io::Result<()> {
     let mut window = window::empty();
     let mut table = [0u64; 1296];
     let mut out = [0u8; 1280];
@@ -83,10 +106,12 @@ pub(crate) fn replay_all(file: i32, name: &[u8]) {
         ended: false,
         last: false,
     };
-    let mut turns = u64::MAX;
-    while turns > 0 && !state.last {
-        turns -= 1;
-        state = refill(file, name, &mut window, state);
-        state = step(&window, state, &mut table, &mut out);
+    for _ in 0..u64::MAX {
+        if state.last {
+            break;
+        }
+        state = refill(file, name, errors, &mut window, state)?;
+        state = step(to, &window, state, &mut table, &mut out)?;
     }
+    Ok(())
 }

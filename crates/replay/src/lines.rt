@@ -1,10 +1,12 @@
 // The line of a record.
 use c_structs::replayed::Replayed;
 use print::convert::{from_i64, from_u8, from_u16};
+use std::io;
+use std::io::Write;
 use text::{part, piece};
 
 // A call that was made, by its kind. The rows have the forms of the crate print; `out` is what was lent.
-fn called(number: u64, r: Replayed, out: &[u8]) {
+fn called<W: Write>(to: &mut W, number: u64, r: Replayed, out: &[u8]) -> io::Result<()> {
     let rows = b"-\n\
         open - %d\n\
         poll - %r %d %o\n\
@@ -16,12 +18,14 @@ fn called(number: u64, r: Replayed, out: &[u8]) {
     let refusal = from_u8(r.refusal);
     match kind {
         2 => print::numbered(
+            to,
             number,
             row,
             &[refusal, from_u16(r.length), 0],
             part(out, 0, r.length as usize),
         ),
         4 => print::numbered(
+            to,
             number,
             row,
             &[
@@ -33,12 +37,12 @@ fn called(number: u64, r: Replayed, out: &[u8]) {
             ],
             out,
         ),
-        _ => print::numbered(number, row, &[refusal], out),
+        _ => print::numbered(to, number, row, &[refusal], out),
     }
 }
 
 // A call that was made, or what is wrong with the record; nothing at the end.
-pub(crate) fn record(number: u64, r: Replayed, out: &[u8]) {
+pub(crate) fn record<W: Write>(to: &mut W, number: u64, r: Replayed, out: &[u8]) -> io::Result<()> {
     let rows = b"-\n\
         -\n\
         record - %d: wrong mark\n\
@@ -47,8 +51,13 @@ pub(crate) fn record(number: u64, r: Replayed, out: &[u8]) {
         record - %d: cut\n";
     let state = r.state;
     match state {
-        0 => {}
-        1 => called(number, r, out),
-        _ => print::line(piece(rows, state as usize, b'\n'), &[number, 0, 0, 0], rows),
+        0 => Ok(()),
+        1 => called(to, number, r, out),
+        _ => print::line(
+            to,
+            piece(rows, state as usize, b'\n'),
+            &[number, 0, 0, 0],
+            rows,
+        ),
     }
 }

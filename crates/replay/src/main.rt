@@ -5,36 +5,49 @@
 mod input;
 mod lines;
 
-// The longest name that a file is opened by, without the 0 that ends it.
-const LONGEST_NAME: usize = libc::PATH_MAX - 1;
+use std::env::{Env, FillError};
+use std::fs::File;
+use std::io;
+
+// The longest name that a file is opened by.
+const LONGEST_NAME: usize = 4095;
 
 // Writes to standard error why nothing is replayed.
-fn refuse(why: &[u8]) {
-    io::write_all(libc::STDERR_FILENO, b"replay: ");
-    io::write_all(libc::STDERR_FILENO, why);
-    io::write_all(libc::STDERR_FILENO, b"; usage: replay [FILE]\n");
+fn refuse(rt: &HostRuntime, why: &str) -> io::Result<()> {
+    eprintln!(rt; "replay: {why}; usage: replay [FILE]")
 }
 
-// Replays the file that the argument names. Of a name that is empty, and of one that is too long, `arg` answers 0.
-fn replay_file() {
+// Replays the file of this name.
+fn replay_file(rt: &HostRuntime, name: &[u8]) -> io::Result<()> {
+    match std::str::from_utf8(name) {
+        Err(_) => refuse(rt, "a file's name is UTF-8"),
+        Ok(path) => match File::open(rt, path) {
+            Err(error) => print::failure(&mut rt.stderr(), name, error),
+            Ok(mut file) => {
+                input::replay_all(&mut file, name, &mut rt.stderr(), &mut rt.stdout())
+            }
+        },
+    }
+}
+
+// Replays the file that the argument names, or standard input where there is none.
+fn run(rt: &HostRuntime) -> io::Result<()> {
     let mut name = [0u8; LONGEST_NAME];
-    let n = os::arg(1, &mut name);
-    if n == 0 {
-        refuse(b"a file's name has 1 to 4095 octets");
-        return;
+    match rt.arg(1, &mut name) {
+        Err(FillError::NotPresent) => input::replay_all(
+            &mut rt.stdin(),
+            b"standard input",
+            &mut rt.stderr(),
+            &mut rt.stdout(),
+        ),
+        Ok(0) | Err(FillError::TooLong) => refuse(rt, "a file's name has 1 to 4095 octets"),
+        Ok(n) => replay_file(rt, &name[..n]),
     }
-    let file = os::open_read(&name[0..n]);
-    if file < 0 {
-        os::fail(&name[0..n]);
-        return;
-    }
-    input::replay_all(file, &name[0..n]);
 }
 
-fn main() {
-    match os::arg_count() {
-        0 | 1 => input::replay_all(libc::STDIN_FILENO, b"standard input"),
-        2 => replay_file(),
-        _ => refuse(b"one file at most"),
+fn main(rt: HostRuntime) -> io::Result<()> {
+    match rt.arg(2, &mut []) {
+        Err(FillError::NotPresent) => run(&rt),
+        _ => refuse(&rt, "one file at most"),
     }
 }
