@@ -15,16 +15,15 @@ import contracts
 import refused_by_fact
 import verdicts
 
-RULES = {"crates/own/specs/Rules.antt": {"cleared", "sizeOf", "twice"}, "crates/below/specs/Base.antt": {"base"}}
+RULES = {"crates/own/specs/Rules.antt": {"cleared", "size_of", "twice"}, "crates/below/specs/Base.antt": {"base"}}
 USES = """
-ghost use mathlib.Core.Path.{_≡_};
-ghost use Prim.Native.Nat.{_+_};
-ghost use Rattle·own·specs.specs.Rules.{cleared, sizeOf, twice};
-ghost use Rattle·below.specs.Base.{base};
-ghost use Rattle·below.specs.Lost.{lost};
+ghost use Rattle.std.specs.Prelude.{◌≡◌, ◌+◌, IfOk};
+ghost use Rattle.own.specs.Rules.{cleared, size_of, twice};
+ghost use Rattle.below.specs.Base.{base};
+ghost use Rattle.below.specs.Lost.{lost};
 """
 CLEAR = "pub fn clear(store: &mut [u8], max_len: usize) -> u8"
-RIGHT = "λ r. ⌜ (r, now (store .exit)) ≡ cleared (now (store .entry)) «max_len» ⌝"
+RIGHT = "(result, store.new) ≡ cleared store.old max_len"
 
 
 def status(tool, *given):
@@ -36,7 +35,7 @@ def status(tool, *given):
 def contract_faults(signature, ensures, uses=USES):
     clause = f"    ensures {{ {ensures} }}\n" if ensures else ""
     text = f"{uses}\n{signature}\n{clause}{{\n    0\n}}\n"
-    [(_, found)] = contracts.faults(text, "own", lambda file: RULES.get(file, set()))
+    [(_, found)] = contracts.faults(text, lambda file: RULES.get(file, set()))
     return found
 
 
@@ -48,61 +47,92 @@ class Contracts(unittest.TestCase):
     def test_right_ones(self):
         for signature, ensures in (
             (CLEAR, RIGHT),
-            ("pub fn size() -> usize", "λ r. ⌜ r ≡ sizeOf ⌝"),
-            ("pub fn low(s: &[u8]) -> u8", "λ r. ⌜ r ≡ base (now (s .entry)) .0 ⌝"),
-            ('pub extern "C" fn put(s: &mut [u8], v: u8)', "λ _. ⌜ now (s .exit) ≡ twice (record { v = v; old = now (s .entry) }) ⌝"),
-            ("pub fn mode(b: bool) -> Mode", "λ r. ⌜ twice r ≡ b ⌝"),
-            ("pub fn step(self, n: u8) -> u8", "λ r. ⌜ r ≡ (twice (self .at) n) ⌝"),
+            (CLEAR, RIGHT.replace("max_len", "«max_len»")),
+            ("pub fn size() -> usize", "result ≡ size_of"),
+            ("pub fn low(s: &[u8]) -> u8", "result ≡ (base s.now).0"),
+            ("pub fn part(s: &[u8]) -> &[u8]", "result.now ≡ base s.now"),
+            ('pub extern "C" fn put(s: &mut [u8], v: u8)', "s.new ≡ twice (record { v = v; old = s.old })"),
+            ("pub fn mode(b: bool) -> Mode", "twice result ≡ b"),
+            ("pub fn step(self, n: u8) -> u8", "result ≡ (twice self.at n)"),
+            ("pub fn kind(record: Kind) -> u8", "result ≡ twice «record»"),
+            ("pub const fn any<T: Into<u8>, F: Fn(u8) -> u8>(t: T, f: F) -> u8\n    where T: Copy", "result ≡ twice t f"),
         ):
             self.assertEqual(contract_faults(signature, ensures), [], signature)
 
     def test_form(self):
         self.refused("0 `ensures`", CLEAR, "")
-        self.refused("not `λ result.", CLEAR, "λ r. ⊤ₛ")
-        self.refused("at its top level", CLEAR, "λ r. ⌜ base r ⌝")
-        self.refused("at its top level", CLEAR, RIGHT.replace("⌜ ", "⌜ r ≡ 0 → "))
-        self.refused("at its top level", CLEAR, "λ r. ⌜ (r ≡ 0) ⊎ (r ≡ 1) ⌝")
-        self.refused("2 equations", CLEAR, "λ r. ⌜ (r ≡ 0) × (r ≡ 1) ⌝")
-        self.refused("at its top level", CLEAR, "λ r. ⌜ (r ≡ cleared ⌝")
-        self.refused("binds a name", CLEAR, "λ r. ⌜ r ≡ cleared (λ store. store) ⌝")
-        self.refused("`requires`", CLEAR + "\n    requires { ⌜ ⊤ ⌝ }", RIGHT)
+        self.refused("2 `ensures`", CLEAR + "\n    ensures { " + RIGHT + " }", RIGHT)
+        self.refused("at its top level", CLEAR, "⊤")
+        self.refused("at its top level", CLEAR, "base result")
+        self.refused("at its top level", CLEAR, "result ≡ 0 → " + RIGHT)
+        self.refused("at its top level", CLEAR, "(result ≡ 0) ⊎ (result ≡ 1)")
+        self.refused("2 equations", CLEAR, "(result ≡ 0) × (result ≡ 1)")
+        self.refused("at its top level", CLEAR, "(result ≡ cleared")
+        self.refused("binds a name", CLEAR, "result ≡ cleared (λ store. store)")
+        self.refused("`requires`", CLEAR + "\n    requires { ⊤ }", RIGHT)
+        self.refused("`requires*`", CLEAR + "\n    requires* { emp }", RIGHT)
+        self.refused("`ensures*`", CLEAR + "\n    ensures* { emp }", RIGHT)
+        self.refused("`ghost`", CLEAR + "\n    ghost max_len: { ℕ }", RIGHT)
+        self.refused("can't be read", CLEAR, RIGHT + " }\n    promises { ⊤")
 
     def test_comments_are_no_contract(self):
         self.refused("0 `ensures`", CLEAR + "\n    /*\n    ensures { " + RIGHT + " }\n    */", "")
-        self.refused("does not name its result", CLEAR, RIGHT.replace("(r, now (store .exit))", "now (store .exit) {- r -}"))
+        self.refused("does not name its result", CLEAR, RIGHT.replace("(result, store.new)", "store.new {- result -}"))
 
     def test_operators(self):
-        other = USES.replace("mathlib.Core.Path", "Rattle·own·specs.specs.Rules")
-        self.refused("not the library's", CLEAR, RIGHT, other)
-        self.refused("at its top level", CLEAR, RIGHT.replace(" ⌝", " or tt ⌝"), USES + "ghost use lib.Or.{_or_};\n")
+        other = USES.replace("Rattle.std.specs.Prelude.{◌≡◌, ", "Rattle.own.specs.Rules.{◌≡◌, ")
+        self.refused("an `≡` that is not the library's", CLEAR, RIGHT, other)
+        self.refused("an `+` that is not the library's", CLEAR, RIGHT.replace("max_len", "(max_len + 1)"), other)
+        self.refused("at its top level", CLEAR, RIGHT + " or tt", USES + "ghost use lib.Or.{◌or◌};\n")
 
     def test_same_sides(self):
-        self.refused("same text on both sides", "pub fn f() -> u8", "λ r. ⌜ r ≡  r ⌝")
-        self.refused("same text on both sides", "pub fn f(x: u8) -> u8", "λ r. ⌜ twice r x ≡ (twice r\n  x) ⌝")
-        self.refused("on both sides", "pub fn f(x: u8) -> u8", "λ r. ⌜ twice r x ≡ base r x ⌝")
+        self.refused("same text on both sides", "pub fn f() -> u8", "result ≡  result")
+        self.refused("same text on both sides", "pub fn f(x: u8) -> u8", "twice result x ≡ (twice result\n  x)")
+        self.refused("on both sides", "pub fn f(x: u8) -> u8", "twice result x ≡ base result x")
 
     def test_result_lost(self):
-        self.refused("does not name its result", CLEAR, RIGHT.replace("(r, now (store .exit))", "now (store .exit)"))
-        self.refused("does not name its result", "pub fn f(x: u8) -> Pair", "λ r. ⌜ record { r = x } ≡ twice x ⌝")
-        self.refused("calls its result as", "pub fn f(r: u8) -> u8", "λ r. ⌜ r ≡ twice 0 ⌝")
+        self.refused("does not name its result", CLEAR, RIGHT.replace("(result, store.new)", "store.new"))
+        self.refused("does not name its result", "pub fn f(s: &mut u8) -> io::Result<()>", "s.new ≡ twice s.old")
+        self.refused("does not name its result", "pub fn f(x: u8) -> Pair", "record { result = x } ≡ twice x")
+        self.refused("as its parameter `result`", "pub fn f(result: u8) -> u8", "result ≡ twice 0")
+        other = USES + "ghost use Rattle.own.specs.Rules.{cleared as result};\n"
+        self.refused("what it brings, `result`", "pub fn f(x: u8) -> u8", "result ≡ twice x", other)
+
+    def test_success_alone(self):
+        fn, said = "pub fn f(x: u8) -> io::Result<u8>", "IfOk result (λ r. r ≡ twice x)"
+        self.assertEqual(contract_faults(fn, said), [contracts.PARTLY])
+        other = USES.replace(", IfOk", "") + "ghost use Rattle.own.specs.Rules.{IfOk};\n"
+        self.refused("an `IfOk` that is not the library's", fn, said, other)
+        self.refused("does not name its result", fn, said.replace("r ≡", "size_of ≡"))
+        self.refused("parameter `x`", fn, said.replace("twice x", "twice 0"))
+        self.refused("none is a definition", fn, said.replace("twice x", "x"))
+        self.refused("as its parameter `x`", fn, said.replace("λ r. r", "λ x. x"))
+        self.refused("what is left of `s`", "pub fn f(s: &mut u8) -> io::Result<u8>", said.replace("twice x", "twice s.old"))
+        self.refused("2 equations", fn, said.replace("twice x", "twice x × (r ≡ 0)"))
+        self.refused("at its top level", fn, "IfOk result (twice x)")
+        for old, new in (("r ≡", "result ≡"), ("x)", "x) × ⊤"), ("x)", "x) (x)"), ("IfOk", "IfErr")):
+            self.refused("at its top level", fn, said.replace(old, new))
 
     def test_exit_lost(self):
-        self.refused("what is left of `store`", CLEAR, RIGHT.replace(".exit", ".entry"))
-        self.refused("what is left of `store`", CLEAR, RIGHT.replace("now (store .exit)", "(store .exit)"))
+        self.refused("what is left of `store`", CLEAR, RIGHT.replace(".new", ".old"))
+        self.refused("what is left of `store`", CLEAR, RIGHT.replace(".new", ".exit"))
         both = "pub fn f<'a>(a: &mut [u8], b: &'a mut [u8])"
-        self.refused("what is left of `b`", both, "λ _. ⌜ now (a .exit) ≡ base (now (b .entry)) ⌝")
+        self.refused("what is left of `b`", both, "a.new ≡ base b.old")
 
     def test_parameter_lost(self):
-        self.refused("parameter `max_len`", CLEAR, RIGHT.replace("«max_len»", "8"))
-        self.refused("parameter `max_len`", CLEAR, RIGHT.replace("«max_len»", "max_len"))
-        self.refused("parameter `b`", "pub fn f(a: [u8; 4], b: u8) -> u8", "λ r. ⌜ r ≡ twice (record { b = a }) ⌝")
+        self.refused("parameter `max_len`", CLEAR, RIGHT.replace("max_len", "8"))
+        self.refused("parameter `record`", "pub fn f(record: u8) -> u8", "result ≡ twice record")
+        self.refused("parameter `b`", "pub fn f(a: [u8; 4], b: u8) -> u8", "result ≡ twice (record { b = a })")
+        self.refused("parameter `b`", "pub fn f<T>(a: T, b: u8) -> u8 where T: Copy", "result ≡ twice a")
 
     def test_no_definition(self):
-        for sides in ("r ≡ x", "r ≡ other x", "r ≡ lost x", "r ≡ 1 + twice x", "r ≡ () x", "(r, 0) ≡ (twice x, 0)"):
-            self.refused("none is a definition", "pub fn f(x: u8) -> u8", f"λ r. ⌜ {sides} ⌝")
-        self.refused("none is a definition", "pub fn f(twice: u8) -> u8", "λ r. ⌜ r ≡ twice ⌝")
-        self.refused("none is a definition", "pub fn f(x: u8) -> u8", "λ r. ⌜ r ≡ twice x ⌝", USES.replace("own·specs", "below·specs"))
-        self.refused("none is a definition", "pub fn f(x: u8) -> u8", "λ r. ⌜ r ≡ twice x ⌝", USES + "ghost use lib.Two.{twice};\n")
+        for sides in ("result ≡ x", "result ≡ other x", "result ≡ lost x", "result ≡ 1 + twice x", "result ≡ () x",
+                      "(result, 0) ≡ (twice x, 0)", "result ≡ (twice x, 0).0"):
+            self.refused("none is a definition", "pub fn f(x: u8) -> u8", sides)
+        self.refused("none is a definition", "pub fn f(twice: u8) -> u8", "result ≡ twice")
+        elsewhere = (USES.replace("Rattle.own.specs", place) for place in ("Rattle.below.specs", "Rattle.own.proofs", "Rattle.own.specs.specs"))
+        for uses in (*elsewhere, USES + "ghost use lib.Two.{twice};\n"):
+            self.refused("none is a definition", "pub fn f(x: u8) -> u8", "result ≡ twice x", uses)
 
     def test_definitions(self):
         text = "abbrev pub f : ℕ → ℕ\nf n = n\n\nown : ℕ\n\npub record R : Type 0 where\n  pub g : ℕ\n\npub data D : Type 0 where\n  c : D\n"
@@ -131,8 +161,8 @@ pub record Both : Type 0 where
 pub record With (n : ℕ) : Type 0 where
   pub left : Once
 """
-PROOFS = """use mathlib.Core.Path.{refl}
-use Rattle·own·specs.specs.Rules.{With, Once}
+PROOFS = """use Rattle.std.proofs.Common.{refl}
+use Rattle.own.specs.Rules.{With, Once}
 
 module _ (n : ℕ) where
   pub step : n ≡ n
@@ -171,6 +201,7 @@ class Claims(unittest.TestCase):
 
     def test_right_ones(self):
         self.assertEqual(claim_faults(), (1, []))
+        self.assertEqual(claim_faults(crates="own staticlib: below\n"), (1, []))
         self.assertEqual(claim_faults(specs=SPECS.replace("abbrev", "unfoldable")), (1, []))
         self.assertEqual(claim_faults(proofs=PROOFS.replace("With, Once}", "With,\n  Once,\n}")), (1, []))
         both = PROOFS.replace("{With, Once}", "{Both, Once}").replace("only : Once", "only : Both")
@@ -180,7 +211,8 @@ class Claims(unittest.TestCase):
     def test_claim_is_closed(self):
         for wrong in ("abbrev pub Once : ℕ → Type 0", "abbrev pub Once {ℓ} : Type 0", "pub Once : Type 0",
                       "abbrev pub Once : Type 0\n  → Type 0", "pub record Once (n : ℕ) : Type 0 where",
-                      "-- abbrev pub Once : Type 0", "{-\nabbrev pub Once : Type 0\n-}"):
+                      "-- abbrev pub Once : Type 0", "{-\nabbrev pub Once : Type 0\n-}", "pattern abbrev pub Once : Type 0",
+                      "abbrev pub «Once» : ℕ → Type 0", "«Once» : ℕ\n«Once» = 0\n\nabbrev pub Once : Type 0"):
             self.refused("as a closed type", specs=SPECS.replace("abbrev pub Once : Type 0", wrong))
         self.refused("as a closed type", specs="module _ (n : ℕ) where\n  " + SPECS.replace("\n", "\n  "))
 
@@ -189,22 +221,32 @@ class Claims(unittest.TestCase):
                       "pub once-only : Once n", "pub once-only : Once\n    → Once", "pub once-only :\n    ℕ → Once",
                       "pub once-only {ℓ} : Once", "once-only : Once", "axiom pub once-only : Once",
                       "abbrev pub once-only : Once", "-- pub once-only : Once", "{- pub once-only : Once -}",
-                      "  pub once-only : Once", "pub once-only : Once\npub once-only : Once", "pub once : Once"):
+                      "  pub once-only : Once", "pub once-only : Once\npub once-only : Once", "pub once : Once",
+                      "pub once-only : Once\n\nmodule _ (n : ℕ) where\n  pub «once-only» : Once", "pattern abbrev pub once-only : Once"):
             self.refused("and nothing more", proofs=PROOFS.replace("pub once-only : Once", wrong))
 
     def test_block_has_hypotheses(self):
         use, block = PROOFS.split("\n-- the proof")
         self.refused("and nothing more", proofs=f"{use}\nmodule _ (h : ⊥) where" + block.replace("\n", "\n  "))
-        self.refused("not indented", proofs=PROOFS.replace("\npub once-only", "\nmodule _ (h : ⊥) where\npub once-only"))
+        for opening in ("module _ (h : ⊥) where", "module _\n    (h : ⊥) where", "mutual"):
+            self.refused("not indented", proofs=PROOFS.replace("\npub once-only", f"\n{opening}\npub once-only"))
 
     def test_name_means_the_claim(self):
-        for wrong in ("Rules.{With}", "Rules.{With, Other as Once}", "Rules.{With, Once as Other}", "Other.{With, Once}"):
+        for wrong in ("Rules.{With}", "Rules.{With, Other as Once}", "Rules.{With, Once as Other}", "Other.{With, Once}",
+                      "Rules.{With, «Other» as «Once»}"):
             self.refused("does not bring", proofs=PROOFS.replace("Rules.{With, Once}", wrong))
-        self.refused("does not bring", proofs=PROOFS.replace("Rattle·own·specs.specs", "Rattle·other.specs"))
-        self.refused("does not bring", proofs="use lib.Other.{Easy.Once}\n" + PROOFS)
-        self.refused("of its own", proofs=PROOFS + "\nabbrev Once : Type 0\nOnce = Unit {0}\n")
-        self.refused("opens something", proofs=PROOFS + "\nopen R t using (easy as Once)\n")
-        self.refused("library's name", proofs="use lib.Other as Rattle·own·specs\n" + PROOFS)
+        for wrong in ("Rattle.other.specs", "Rattle.own.proofs", "other.own.specs", "package.Rattle.own.specs"):
+            self.refused("does not bring", proofs=PROOFS.replace("Rattle.own.specs", wrong))
+        for wrong in ("Other.{Easy.Once}", "Other.{Easy.{Once}}", "Other.{«Once»}"):
+            self.refused("does not bring", proofs=f"use lib.{wrong}\n" + PROOFS)
+        for own in ("abbrev Once : Type 0\nOnce = Unit {0}", "«Once» : Type 0\n«Once» = Unit {0}", "record «Once» : Type 0 where"):
+            self.refused("of its own", proofs=f"{PROOFS}\n{own}\n")
+        for opened in ("open t use {easy as Once}", "open (f t) use {a, b.{\n  Once,\n}}", "pub open t use {«Once»}"):
+            self.refused("opens something", proofs=f"{PROOFS}\n{opened}\n")
+        for other in ("use lib.Other as Rattle", "mod Rattle", "pub mod Rattle", "open t use {easy as Rattle, other}"):
+            self.refused("gives the library's name", proofs=f"{other}\n" + PROOFS)
+        for other in ("use lib.Rattle", "use lib.Other as Rattle", "use lib.{Rattle}", "use lib.{Other as «Rattle»}"):
+            self.refused("brings something by the library's name", proofs=f"{other}\n" + PROOFS)
 
     def test_files_are_checked(self):
         self.refused("crates.txt", crates="below:\n# own: below\n")

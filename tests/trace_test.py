@@ -66,12 +66,12 @@ class Trace(unittest.TestCase):
 
     def test_names(self):
         claimed = {"header/proofs/RoundTrip.antt:read-written"}
-        for name in ("header/proofs/RoundTrip.antt:read-written", "docs/RULES.md", "header/specs/Header.antt:headerOf"):
+        for name in ("header/proofs/RoundTrip.antt:read-written", "docs/RULES.md", "header/specs/Header.antt:header_of"):
             self.assertEqual(trace.name_faults(f"`{name}`", claimed), ({name}, []))
         for part, text in (
             ("no file", "`header/specs/None.antt`"),
             ("does not define", "`header/specs/Header.antt:none`"),
-            ("not among", "`header/proofs/RoundTrip.antt:written-read`"),
+            ("not among", "`header/proofs/RoundTrip.antt:written_read`"),
             ("can't be looked up", "`docs/RULES.md:Rules`"),
             ("without its pair", "`docs/RULES.md"),
         ):
@@ -82,6 +82,17 @@ class Trace(unittest.TestCase):
         self.assertEqual(trace.citation_faults("file", text, NUMBERS), (set(NUMBERS), []))
         for gone in ("A-2", "W206-1", "C-12"):
             self.refused(f"file: {gone} is no rule", trace.citation_faults("file", f"see {gone}.", NUMBERS)[1])
+
+    def test_patches(self):
+        patch = "--- a/docs/RULES.md\n+++ b/docs/RULES.md\n+| A-2 | Two, not A-4. |\ndiff --git a/b b/b\n+++ b/b\n+| A-5 | see A-2, A-1 |\n"
+        _, faults = trace.citation_faults("docs/some.patch", patch, NUMBERS)
+        self.assertEqual(faults, [f"docs/some.patch: {number} is no rule of docs/RULES.md" for number in ("A-4", "A-5")])
+        self.refused("A-2 is no rule", trace.citation_faults("docs/some.md", patch, NUMBERS)[1])
+
+    def test_edits(self):
+        self.assertEqual(trace.idle_faults("`state/not_capped`, `crates/state`, `crates/NONE`"), [])
+        self.refused("no edit state/none", trace.idle_faults("`state/not_capped`, `state/none`"))
+        self.refused("no edits", trace.idle_faults("`crates/state`"))
 
     def test_every_text_is_read(self):
         paths = {path for path, _ in trace.texts()}

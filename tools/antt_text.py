@@ -9,10 +9,14 @@ from typing import NamedTuple
 
 BARE = r'[^\s(){}.;,@"«»]+'
 NAME = rf"(?:«[^»]*»|{BARE})"
+# What is a name only where it is escaped. Any other escaped name is the bare one.
+RESERVED = set("""data record deriving module where use mod pub package open as unfoldable abbrev axiom unfold unfolding ruleset
+    mutual infix infixl infixr elim let in do Type coe fcoe tcoe hcom com λ ∀ 𝕀 𝔽 ∨ ∧""".split())
 # A quoted text and an escaped name hold no comment, and `--` opens one only where a name could begin.
 PIECE = re.compile(rf'"(?:[^"\\]|\\.)*"|«[^»]*»|(?P<block>\{{-)|(?P<line>--[^\n]*)|{BARE}|.', re.S)
 EDGE = re.compile(r"\{-|-\}")
-MARKED = re.compile(rf"((?:(?:unfoldable|abbrev|axiom|pub) )*)((?:record|data) )?({NAME})(.*)")
+MARK = r"(?:pattern|unfoldable|abbrev|axiom|pub)"
+MARKED = re.compile(rf"((?:{MARK} )*)((?:record|data) )?({NAME})(.*)")
 SIGNED = re.compile(r"( \{[^}]*\})? : (.*)")
 
 
@@ -26,13 +30,18 @@ class Declaration(NamedTuple):
 
 
 class Brought(NamedTuple):
-    module: str
+    module: str     # nothing where a module itself is brought
     name: str
     local: str      # the name that it has in the file
 
 
 def blank(text):
     return re.sub(r"[^\n]", " ", text)
+
+
+def unescaped(name):
+    bare = name.strip("«»")
+    return f"«{bare}»" if bare in RESERVED else bare
 
 
 def block_end(text, at):
@@ -103,19 +112,37 @@ def declarations(text):
             signed = SIGNED.fullmatch(rest)
             split = signed and ((signed[1] or "").strip(), signed[2])
         if split:
-            yield Declaration(number, marks.strip(), kind.strip(), name, split[0], split[1].strip())
+            yield Declaration(number, marks.strip(), kind.strip(), unescaped(name), split[0], split[1].strip())
+
+
+def leaves(text):
+    """What stands between commas outside braces."""
+    parts, depth = [""], 0
+    for character in text:
+        depth += (character == "{") - (character == "}")
+        if character == "," and not depth:
+            parts.append("")
+        else:
+            parts[-1] += character
+    return parts
 
 
 def brought(tree):
-    """What a `use` brings by name. One without braces brings a module, and so nothing here."""
-    path, brace, leaves = " ".join(tree.split()).partition(".{")
-    for leaf in leaves.rstrip("} ").split(",") if brace else []:
-        words = leaf.split()
-        if not words or words[0] == "syntax":
-            continue
-        *inner, name = words[0].split(".")
-        local = words[2] if words[1:2] == ["as"] else name
-        yield Brought(".".join([path] + inner), name, local)
+    """What a `use` brings: the items between its braces, or, without braces, a module."""
+    path, brace, rest = " ".join(tree.split()).partition(".{")
+    if not brace:
+        name, _, local = path.partition(" as ")
+        name = name.split(".")[-1]
+        yield Brought("", name, local or name)
+        return
+    for leaf in map(str.strip, leaves(rest.removesuffix("}"))):
+        if ".{" in leaf:
+            yield from brought(f"{path}.{leaf}")
+        elif leaf:
+            words = leaf.split()
+            *below, name = re.findall(NAME, words[0])
+            local = words[2] if words[1:2] == ["as"] else name
+            yield Brought(".".join([path, *below]), unescaped(name), unescaped(local))
 
 
 def imports(text):
@@ -126,9 +153,7 @@ def imports(text):
             yield from brought(use[1])
 
 
-def specs_file(module, crate):
-    """The file of a module of `specs/` as a file of `crate` names it, its own by the library and another's by the facade."""
-    named = re.fullmatch(r"Rattle·(\w+?)(·specs)?\.specs\.([\w.]+)", module)
-    if not named or (named[2] is not None) != (named[1] == crate):
-        return None
-    return f"crates/{named[1]}/specs/{named[3].replace('.', '/')}.antt"
+def specs_file(module):
+    """The file of a module of `specs/`, by the path that every crate writes."""
+    named = re.fullmatch(r"Rattle\.(\w+)\.specs\.([\w.]+)", module)
+    return f"crates/{named[1]}/specs/{named[2].replace('.', '/')}.antt" if named else None

@@ -22,6 +22,8 @@ import antt_text        # noqa: E402
 PAGE = "docs/CLAIMS.md"
 CLAIMS = ("claim", "says", "proof")
 TYPES = ("type", "what it is")
+# The first name of every path to a claim: what else has it would lead elsewhere.
+LIBRARY = "Rattle"
 PLACE = re.compile(r"`(\w+)/(specs|proofs)/(\w+)\.antt:([^`\s]+)`")
 
 
@@ -60,8 +62,9 @@ def place(cell, folder):
 
 
 def listed_crates(text):
+    """The names that lines of crates.txt begin with. A kind may stand between a name and its colon."""
     lines = (line.split("#")[0] for line in text.split("\n"))
-    return {line.split(":")[0].strip() for line in lines if ":" in line}
+    return {line.split()[0].rstrip(":") for line in lines if ":" in line}
 
 
 def is_closed(declared):
@@ -75,9 +78,9 @@ def is_claim(declared):
 
 
 def made(text, name):
-    """The lines, at any column, that declare a name."""
-    word = re.escape(name)
-    marked = rf"\s*(?:(?:unfoldable|abbrev|axiom|pub) )*(?:{word}(?: \{{[^}}=]*\}})?|(?:record|data) {word}(?: .*)?) :(?:\s|$)"
+    """The lines, at any column, that declare a name, escaped or not."""
+    word = rf"(?:{re.escape(name)}|«{re.escape(name)}»)"
+    marked = rf"\s*(?:{antt_text.MARK} )*(?:{word}(?: \{{[^}}=]*\}})?|(?:record|data) {word}(?: .*)?) :(?:\s|$)"
     return [line for line in antt_text.without_comments(text).split("\n") if re.match(marked, line)]
 
 
@@ -101,17 +104,20 @@ def claim_faults(claim, text):
 
 def type_faults(claim, proof, text):
     """Whether the claim's name means the claim in the proof's file."""
-    brought = [item for item in antt_text.imports(text) if claim.name in (item.local, item.name)]
-    plain = [item for item in brought if item.local == item.name and antt_text.specs_file(item.module, proof.crate) == claim.file]
-    if len(brought) != 1 or len(plain) != 1:
+    brought = list(antt_text.imports(text))
+    named = [item for item in brought if item.module and claim.name in (item.local, item.name)]
+    plain = [item for item in named if item.local == item.name and antt_text.specs_file(item.module) == claim.file]
+    if len(named) != 1 or len(plain) != 1:
         yield f"{proof.file} does not bring {claim.name} from {claim.file}, and from there alone, by its own name"
+    if any(item.local == LIBRARY for item in brought):
+        yield f"{proof.file} brings something by the library's name"
     for number, lines in antt_text.items(text):
         item = antt_text.joined(lines)
-        if re.search(r"(?:\bas|^(?:pub )?mod) Rattle·", item):
-            yield f"{proof.file}:{number} gives a library's name to something else"
-        if item.startswith("open ") and claim.name in re.split(r"[\s(),]+", item):
+        if re.search(rf"(?:\bas|^(?:pub )?mod) «?{LIBRARY}»?(?![^\s,}}])", item):
+            yield f"{proof.file}:{number} gives the library's name to something else"
+        if re.match(r"(?:pub )?open ", item) and claim.name in re.split(r"[\s(){},.«»]+", item):
             yield f"{proof.file}:{number} opens something as {claim.name}"
-        if re.match(r"(?:module|mutual)\b", item) and len(lines) == 1:
+        if re.match(r"(?:module|mutual)\b", item) and (len(lines) == 1 or item.endswith(" where")):
             yield f"{proof.file}:{number} begins a block whose body is not indented"
     if made(text, claim.name):
         yield f"{proof.file} has a {claim.name} of its own"

@@ -2,12 +2,14 @@
 """Fails if a public function has no contract that is one equation with a definition of `specs/` and fixes its outcome.
 
 The prover accepts a function without an `ensures`, or with one that says nothing, and promises nothing of it, so that a lost
-contract would go unnoticed. Of each public function is asked that it has no `requires` and one `ensures`, `λ r. ⌜ A ≡ B ⌝`,
+contract would go unnoticed. Of each public function is asked that it has no `requires` and one `ensures`, `A ≡ B`,
 
-- where A and B differ as texts, and `≡` is the library's;
+- where A and B differ as texts, and `≡` and the operators beside it are the library's;
 - which names the result, what is left of each `&mut` parameter, and every parameter;
 - of which one side has neither the result nor what is left: the rule, in terms of what came in;
 - of which one side is a call of a definition that stands in a file of `specs/`.
+
+`IfOk result (λ r. A ≡ B)` is such an equation of r, what a call that succeeds returns, and lacks what holds of one that fails.
 """
 
 import functools
@@ -32,31 +34,38 @@ def not_left(parameter):
     return f"does not say what is left of `{parameter}`"
 
 
+RESULT_LOST = "does not name its result"
+PARTLY = "says nothing of a call that fails"
+
 # What the contract of a function lacks, and why that is right. An entry that is not needed in full fails.
-PRINTED = "the row is the form of the printed line, and what is left does not depend on it"
-PRINTS = "it prints, of which the logic knows nothing, and its signature lends it nothing to change"
+WRITER = {unnamed("to"), not_left("to")}
+SILENT = {*WRITER, PARTLY, headed("r", "tt")}
+PRINTED = "the result tells of the writer alone; the row is the form of the printed line, and what is left does not depend on it"
+PRINTS = "it prints, what is written is not stated, and its signature lends it nothing to change but the writer"
 KIT = "the kit's definition is the plain statement: one of specs/ would only rename it"
 WIDENED = "the same number in a wider type"
 EXEMPT = {
-    "actions/src/lib.rt:run": ({unnamed("row")}, PRINTED),
-    "changes/src/lib.rt:run": ({unnamed("row")}, PRINTED),
-    "octets/src/sign.rt:from_octet": ({headed("r", "toZ")}, KIT),
-    "octets/src/sign.rt:from_word": ({headed("r", "toZ")}, KIT),
-    "octets/src/sign.rt:to_octet": ({headed("r", "ofZ")}, KIT),
-    "octets/src/sign.rt:to_word": ({headed("r", "ofZ")}, KIT),
-    "print/src/convert.rt:from_i16": ({headed("r", "ofZ")}, KIT),
-    "print/src/convert.rt:from_i64": ({headed("r", "ofZ")}, KIT),
-    "print/src/convert.rt:from_i8": ({headed("r", "ofZ")}, KIT),
-    "print/src/convert.rt:from_u16": ({headed("r", "x")}, WIDENED),
-    "print/src/convert.rt:from_u32": ({headed("r", "x")}, WIDENED),
-    "print/src/convert.rt:from_u8": ({headed("r", "x")}, WIDENED),
-    "print/src/lib.rt:line": ({headed("r", "tt"), *map(unnamed, ("row", "values", "octets"))}, PRINTS),
-    "print/src/lib.rt:numbered": ({headed("r", "tt"), *map(unnamed, ("number", "row", "values", "octets"))}, PRINTS),
-    "print/src/lib.rt:problem": ({headed("r", "tt"), *map(unnamed, ("number", "word", "problem"))}, PRINTS),
-    "print/src/lib.rt:result": ({headed("r", "tt"), *map(unnamed, ("row", "refusal", "octets"))}, PRINTS),
-    "queries/src/lib.rt:run": ({headed("r", "tt"), *map(unnamed, ("call", "row", "line", "table"))}, PRINTS),
-    "rows/src/lib.rt:call_of": ({unnamed("number")}, "the line's number is only printed, beside a problem"),
-    "text/src/lib.rt:rest": ({headed("now", "drop")}, KIT),
+    "actions/src/lib.rt:run": ({*WRITER, RESULT_LOST, unnamed("row")}, PRINTED),
+    "changes/src/lib.rt:run": ({*WRITER, RESULT_LOST, unnamed("row")}, PRINTED),
+    "octets/src/sign.rt:from_octet": ({headed("result", "to_z")}, KIT),
+    "octets/src/sign.rt:from_u64": ({headed("result", "to_z")}, KIT),
+    "octets/src/sign.rt:from_word": ({headed("result", "to_z")}, KIT),
+    "octets/src/sign.rt:to_octet": ({headed("result", "of_z")}, KIT),
+    "octets/src/sign.rt:to_word": ({headed("result", "of_z")}, KIT),
+    "print/src/convert.rt:from_i16": ({headed("result", "of_z")}, KIT),
+    "print/src/convert.rt:from_i64": ({headed("result", "of_z")}, KIT),
+    "print/src/convert.rt:from_i8": ({headed("result", "of_z")}, KIT),
+    "print/src/convert.rt:from_u16": ({headed("result", "x")}, WIDENED),
+    "print/src/convert.rt:from_u32": ({headed("result", "x")}, WIDENED),
+    "print/src/convert.rt:from_u8": ({headed("result", "x")}, WIDENED),
+    "print/src/lib.rt:failure": ({*SILENT, *map(unnamed, ("what", "error"))}, PRINTS),
+    "print/src/lib.rt:line": ({*SILENT, *map(unnamed, ("row", "values", "octets"))}, PRINTS),
+    "print/src/lib.rt:numbered": ({*SILENT, *map(unnamed, ("number", "row", "values", "octets"))}, PRINTS),
+    "print/src/lib.rt:problem": ({*SILENT, *map(unnamed, ("number", "word", "problem"))}, PRINTS),
+    "print/src/lib.rt:result": ({*SILENT, *map(unnamed, ("row", "refusal", "octets"))}, PRINTS),
+    "queries/src/lib.rt:run": ({*SILENT, *map(unnamed, ("call", "row", "line", "table"))}, PRINTS),
+    "rows/src/lib.rt:call_of": ({*WRITER, PARTLY, unnamed("number")}, "only the writer fails, and the line's number is only printed"),
+    "text/src/lib.rt:rest": ({headed("result", "drop")}, KIT),
     "words/src/octet_word.rt:octets_of": ({not_left("buffer")}, "the buffer is lent on in the result, and has no value at exit"),
 }
 
@@ -65,22 +74,17 @@ TOKEN = re.compile(rf'"(?:[^"\\]|\\.)*"|[(){{}};,@⌜⌝⟦⟧]|\.{antt_text.NAM
 CLOSER = {"+", "%"}
 # With a name of its own in it, a contract could write a parameter's name and not mean the parameter.
 BINDERS = {"λ", "∀", "let", "in", "do", "elim", "unfold", "←", ":", "→", "⌜", "⌝", "⟦", "⟧"}
-EQUALITY = ("mathlib.Core.Path", "_≡_")
+LIBRARY = "Rattle.std.specs.Prelude"
+RESULT = "result"
 
 
 class NotAnEquation(Exception):
     pass
 
 
-def spelled(name):
-    """A name as it stands in a contract: escaped where antt would read an operator's places in it."""
-    bare = name.strip("«»")
-    return f"«{bare}»" if "_" in bare else bare
-
-
 def tokens(text):
     found = TOKEN.findall(antt_text.without_comments(text))
-    return [spelled(token) if token.startswith("«") else token for token in found]
+    return [antt_text.unescaped(token) if token.startswith("«") else token for token in found]
 
 
 def tree(said):
@@ -138,8 +142,10 @@ def equation(term, words):
 
 
 def head(side):
-    """What a side is a call of: a name, an operator, or `(` for a tuple."""
+    """What a side is a call of, or a part of such a call's result: a name, an operator, or `(` for a tuple."""
     side = unwrapped(side)
+    while len(side) > 1 and isinstance(side[0], list) and "," not in side[0] and all(str(part)[0] == "." for part in side[1:]):
+        side = unwrapped(side[:1])
     operators = [part for part in side if isinstance(part, str) and part in CLOSER]
     return operators[0] if operators else side[0][0] if isinstance(side[0], list) else side[0]
 
@@ -152,20 +158,20 @@ def names(side):
 
 def leaves(side, parameter):
     """Whether a side has the value of a parameter at exit."""
-    return re.search(rf"(?:^| )now (?:\( )?{re.escape(spelled(parameter))} \.exit(?: |$)", " ".join(flat(side))) is not None
+    return re.search(rf"(?:^| ){re.escape(antt_text.unescaped(parameter))} \.new(?: |$)", " ".join(flat(side))) is not None
 
 
 def equation_faults(function, result, sides, is_definition):
     """What one equation of a contract lacks."""
     left, right = sides
     used = names(left) | names(right)
-    taken = {spelled(name) for name, _ in function.parameters} | {result}
+    taken = {antt_text.unescaped(name) for name, _ in function.parameters} | {result}
     if flat(unwrapped(left)) == flat(unwrapped(right)):
         yield "has the same text on both sides"
     if function.returns and result not in used:
-        yield "does not name its result"
+        yield RESULT_LOST
     for name, is_lent in function.parameters:
-        if spelled(name) not in used:
+        if antt_text.unescaped(name) not in used:
             yield unnamed(name)
         if is_lent and not (leaves(left, name) or leaves(right, name)):
             yield not_left(name)
@@ -177,19 +183,32 @@ def equation_faults(function, result, sides, is_definition):
         yield headed(*heads)
 
 
+def succeeding(said):
+    """The result's name and the rest of a contract that speaks of a call that succeeds alone."""
+    if said[:4] == ["IfOk", RESULT, "(", "λ"] and said[5:6] == ["."] and said[-1] == ")" and RESULT not in said[2:]:
+        return said[4], said[6:-1]
+    return None
+
+
 def promise_faults(function, promise, scope, is_definition):
     said = tokens(promise)
-    if len(said) < 6 or said[0] != "λ" or said[2:4] != [".", "⌜"] or said[-1] != "⌝":
-        yield "has an `ensures` that is not `λ result. ⌜ equation ⌝`"
-        return
-    result, inner = said[1], said[4:-1]
+    part = succeeding(said)
+    result, inner = part or (RESULT, said)
+    if part:
+        yield PARTLY
+        if scope.get("IfOk") != {(LIBRARY, "IfOk")}:
+            yield "has an `IfOk` that is not the library's"
     if BINDERS & set(inner):
         yield "binds a name in its equation"
-    if result in {spelled(name) for name, _ in function.parameters}:
-        yield f"calls its result as its parameter `{result}`"
-    if scope.get("_≡_") != {EQUALITY}:
-        yield "has an `≡` that is not the library's"
-    words = {word for name in scope for word in name.split("_") if "_" in name} - CLOSER - {"≡"}
+    for name in dict.fromkeys((RESULT, result)):
+        if name in {antt_text.unescaped(name) for name, _ in function.parameters}:
+            yield f"calls its result as its parameter `{name}`"
+        if name in scope:
+            yield f"calls its result as what it brings, `{name}`"
+    for operator in ["≡", *sorted(CLOSER & set(inner))]:
+        if scope.get(f"◌{operator}◌") != {(LIBRARY, f"◌{operator}◌")}:
+            yield f"has an `{operator}` that is not the library's"
+    words = {word for name in scope for word in name.split("◌") if "◌" in name} - CLOSER - {"≡"}
     try:
         equations = [equation(part, words) for part in split(unwrapped(tree(inner)), "×")]
     except NotAnEquation:
@@ -201,17 +220,17 @@ def promise_faults(function, promise, scope, is_definition):
         yield from equation_faults(function, result, sides, is_definition)
 
 
-def faults(text, crate, definitions):
+def faults(text, definitions):
     """Each public function of a file, with what its contract lacks. `definitions` has the names that a file of `specs/` defines."""
     scope = rattle_text.brought(text)
 
     def is_definition(name):
         sources = scope.get(name, set())
-        files = [(antt_text.specs_file(module, crate), inner) for module, inner in sources]
+        files = [(antt_text.specs_file(module), inner) for module, inner in sources]
         return len(files) == 1 and files[0][0] is not None and files[0][1] in definitions(files[0][0])
 
     for function in rattle_text.functions(text):
-        found = ["has a `requires`"] if any(kind == "requires" for kind, _ in function.clauses) else []
+        found = [f"has a `{kind}`" for kind, _ in function.clauses if kind != "ensures"]
         promises = [said for kind, said in function.clauses if kind == "ensures"]
         if len(promises) == 1:
             found += promise_faults(function, promises[0], scope, is_definition)
@@ -253,7 +272,7 @@ def main():
     seen, wrong = [], []
     for path in sorted(top.glob("crates/*/src/**/*.rt")):
         file = path.relative_to(top / "crates").as_posix()
-        for name, found in faults(path.read_text(encoding="utf-8"), file.split("/")[0], definitions):
+        for name, found in faults(path.read_text(encoding="utf-8"), definitions):
             seen.append(f"{file}:{name}")
             allowed, _ = EXEMPT.get(seen[-1], (set(), ""))
             wrong += [f"crates/{file}: `{name}` {fault}" for fault in unexempted(found, allowed)]

@@ -8,9 +8,11 @@ from typing import NamedTuple
 
 import antt_text
 
-START = re.compile(r'\bpub\s+(?:extern\s+"C"\s+)?fn\s+(\w+)')
-RETURN = re.compile(r"\s*(?:->\s*(.*?))?\s*(?=\b(?:requires|ensures)\b|\{)", re.S)
-CLAUSE = re.compile(r"\s*(requires|ensures)\b\s*\w*\s*\{")
+START = re.compile(r'\bpub\s+(?:(?:const|async|unsafe|extern\s+"[^"]*")\s+)*fn\s+(\w+)')
+# The brackets before and of the parameters. In those of generics an arrow closes none.
+GENERIC = re.compile(r"->|[<>(]")
+RETURN = re.compile(r"\s*(?:->\s*(.*?))?\s*(?:\bwhere\b.*?)?(?=\b(?:ghost|requires|ensures)\b|\{)", re.S)
+CLAUSE = re.compile(r"\s*(ghost|(?:requires|ensures)\b\*?)\s*\w*\s*:?\s*\{")
 GHOST = re.compile(r"\bghost\s+use\s+([^;]*);")
 PARAMETER = re.compile(r"(&(?:'\w+\s+)?(?:mut\s+)?)?(?:mut\s+)?(\w+)(?:\s*:\s*(.*))?", re.S)
 MUTABLE = re.compile(r"&(?:'\w+\s+)?mut\b")
@@ -22,7 +24,7 @@ class Function(NamedTuple):
     name: str
     parameters: list        # each its name and whether it is lent to be changed
     returns: bool
-    clauses: list           # each its kind and its text
+    clauses: list           # each its kind, with the star of an assertion, and its text
 
 
 def without_comments(text):
@@ -58,11 +60,21 @@ def parameters(text):
         yield name, bool(MUTABLE.search(lent or "") or MUTABLE.search(kind or ""))
 
 
+def parameters_at(text, at):
+    """Where the bracket of a function's parameters opens, after its name."""
+    depth = 0
+    for found in GENERIC.finditer(text, at):
+        if found[0] == "(" and not depth:
+            return found.start()
+        depth += (found[0] == "<") - (found[0] == ">")
+    raise ValueError(f"no parameters after {text[:at].split()[-1]}")
+
+
 def functions(text):
     """The public functions of a file, with the clauses that stand before each body."""
     text = without_comments(text)
     for start in START.finditer(text):
-        opened = text.index("(", start.end())
+        opened = parameters_at(text, start.end())
         closed = matching(text, opened)
         returned = RETURN.match(text, closed + 1)
         at, clauses = returned.end() if returned else len(text), []
@@ -70,6 +82,8 @@ def functions(text):
             end = matching(text, clause.end() - 1)
             clauses.append((clause[1], text[clause.end():end]))
             at = end + 1
+        if not text[at:].lstrip().startswith("{"):
+            clauses.append(("clause that can't be read", ""))
         returns = returned is not None and returned[1] not in (None, "()")
         yield Function(start[1], list(parameters(text[opened + 1:closed])), returns, clauses)
 
@@ -79,5 +93,6 @@ def brought(text):
     scope = {}
     for use in GHOST.findall(without_comments(text)):
         for item in antt_text.brought(use):
-            scope.setdefault(item.local, set()).add((item.module, item.name))
+            if item.module:
+                scope.setdefault(item.local, set()).add((item.module, item.name))
     return scope

@@ -5,7 +5,8 @@ Of the rules: each row is a number and a text, under its section's letters, and 
 rows have the numbers of the rules, each once and in their order. Everything in backticks there is a file, or a file and a name
 in it after a colon; it fails if a file is gone, if a name is not defined in its file, or if a row lacks a cell. A law of
 `proofs/` is one that docs/CLAIMS.md lists, since any other could be weakened unseen. Of every file, these two too: a rule's
-number that is cited is there. The edits that docs/IDLE.md names have to be there as well.
+number that is cited is there, or, in a patch, is that of a rule which it adds. The edits that docs/IDLE.md names have to be
+there as well.
 """
 import os
 import re
@@ -26,7 +27,7 @@ PASSED_OVER = {".git", "target", "__pycache__", "trace_test.py"}
 
 # How a line that defines a name begins, by the file's ending. A case file has no names: a comment there begins with the text.
 DEFINED = {
-    ".antt": r"\s*(?:(?:pub|abbrev|unfoldable)\s+)*(?:(?:record|data)\s+{0}(?![^\s(]).*|{0}) :(?:\s|$)",
+    ".antt": r"\s*(?:(?:pattern|pub|abbrev|unfoldable)\s+)*(?:(?:record|data)\s+{0}(?![^\s(]).*|{0}) :(?:\s|$)",
     ".rt": r".*\b(?:fn|struct|enum|const)\s+{0}(?![\w])",
     ".rs": r".*\b(?:fn|struct|enum|const)\s+{0}(?![\w])",
     ".py": r"\s*(?:def|class)\s+{0}(?![\w])",
@@ -127,9 +128,16 @@ def name_faults(text, claimed):
     return names, faults
 
 
+def added(patch):
+    """The rules that a patch adds."""
+    page = patch.partition(f"\n+++ b/{RULES}\n")[2].partition("\ndiff --git ")[0]
+    return {match.group(1) for match in re.finditer(rf"^\+\| ({NUMBER}) \|", page, re.M)}
+
+
 def citation_faults(path, text, rules):
     """The rules that a file cites, and those of them that are not there."""
-    cited = {match.group(0) for match in CITED.finditer(text)}
+    own = added(text) if path.endswith(".patch") else set()
+    cited = {match.group(0) for match in CITED.finditer(text)} - own
     return cited, [f"{path}: {number} is no rule of {RULES}" for number in sorted(cited - set(rules))]
 
 
@@ -143,8 +151,8 @@ def texts():
 
 
 def idle_faults(text):
-    """The edits that docs/IDLE.md names, as `CRATE/NAME`, and that are not there."""
-    edits = re.findall(r"`(\w+)/(\w+)`", text)
+    """The edits that docs/IDLE.md names, as `CRATE/NAME`, and that are not there. `crates/CRATE` is a folder."""
+    edits = re.findall(r"`(?!crates/)(\w+)/(\w+)`", text)
     if not edits:
         return [f"{IDLE}: no edits"]
     return [f"{IDLE}: no edit {crate}/{name}" for crate, name in edits if not find(f"{crate}/must-fail/{name}.edit")]
