@@ -23,7 +23,7 @@ HEADING = re.compile(r"## (\w+): .")
 # A number that is cited. UTF-8, a change request such as W-205 and a difference such as T2-T1 are none.
 CITED = re.compile(rf"(?<![\w-]){NUMBER}(?![\w-])")
 # Folders that hold nothing of ours, or what a tool made; and the tests of this check, which cite what is not there.
-PASSED_OVER = {".git", "target", "__pycache__", "trace_test.py"}
+PASSED_OVER = {".git", "target", "out", "__pycache__", "trace_test.py"}
 
 # How a line that defines a name begins, by the file's ending. A case file has no names: a comment there begins with the text.
 DEFINED = {
