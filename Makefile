@@ -1,5 +1,5 @@
 # `make` alone prints these lines:
-#   make test       the gate: every proof from nothing, every must-fail edit, every program, the library from C and Rust
+#   make test       the gate: every proof, every must-fail edit, every program, the library from C and Rust
 #   make demo       a small rack's story, told by the case program line by line
 #   make replay     a trace, one line for each record; TRACE= which file (examples/rack.trace)
 #   make lib        the C library, target/staticlib/libntp5.a; include/ntp5.h declares it
@@ -59,4 +59,4 @@ install uninstall:
 	@tools/install $@ '$(PREFIX)' '$(LIBDIR)' '$(DESTDIR)'
 
 clean:
-	@rm -rf target host/target tests/__pycache__ tools/__pycache__
+	@rm -rf target crates/*/out host/target tests/__pycache__ tools/__pycache__

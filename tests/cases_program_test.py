@@ -13,7 +13,7 @@ from random import Random
 
 sys.dont_write_bytecode = True      # no generated folder beside the sources
 from cases_model import CALLS, calls_of      # noqa: E402
-from program_checks import Checks as ProgramChecks, arguments, standard_input       # noqa: E402
+from program_checks import Checks as ProgramChecks, arguments, full_output, standard_input       # noqa: E402
 
 TOP = pathlib.Path(__file__).resolve().parent.parent
 LINES, RESULTS = b"measure 10 10 10 11\nmeasure 1 1 1 1\n", "measure 0 -1 1\nmeasure 0 0 0\n"
@@ -66,6 +66,7 @@ def main():
     with tempfile.TemporaryDirectory() as folder:
         checks = Checks(program, pathlib.Path(folder), "cases", LINES, RESULTS)
         arguments(checks)
+        full_output(checks)
         standard_input(checks, b"measure 1 1 1 1", "line")
         recipe(checks)
         long_lines(checks)

@@ -33,7 +33,7 @@ class Checks:
             self.failures.append(f"{what}:\n  found    {shown(found, expected):.300}\n  expected {shown(expected, found):.300}")
 
     def run(self, what, arguments, printed, said, **given):
-        """What a run prints on standard output and says on standard error. Its status is always 0."""
+        """What a run prints on standard output and says on standard error. Its status is 0, as long as both can be written."""
         if "input" not in given:
             given = {"stdin": subprocess.DEVNULL, **given}
         done = subprocess.run([self.program, *arguments], capture_output=True, timeout=60, **given)
@@ -67,6 +67,18 @@ def arguments(checks):
     checks.run("a name that is one octet longer", [f"/{longest}"], "", name_size, cwd=folder)
     part = "x" * 256
     checks.run("a name with a part that is too long", [part], "", f"{part}: File name too long\n")
+    checks.run("a name that is not UTF-8", [b"\xff"], "", f"{checks.name}: a file's name is UTF-8; usage: {checks.name} [FILE]\n")
+
+
+def full_output(checks):
+    """What can't be written ends the run with status 1, and with the system's reason where that can be written."""
+    reason = b'Error: Os { code: 28, kind: StorageFull, message: "No space left on device" }\n'
+    for what, name, full, other, expected in (("results", checks.whole, "stdout", "stderr", reason),
+                                              ("a message", str(checks.folder / "none"), "stderr", "stdout", b"")):
+        with open("/dev/full", "wb") as device:
+            given = {full: device, other: subprocess.PIPE}
+            done = subprocess.run([checks.program, name], stdin=subprocess.DEVNULL, timeout=60, **given)
+        checks.same(f"{what} that can't be written", (done.returncode, getattr(done, other)), (1, expected))
 
 
 def failing_input(octets):

@@ -16,7 +16,7 @@ from random import Random
 sys.dont_write_bytecode = True      # no generated folder beside the sources
 from case_lines import response     # noqa: E402
 from fed_program import Fed         # noqa: E402
-from program_checks import Checks as ProgramChecks, arguments, standard_input       # noqa: E402
+from program_checks import Checks as ProgramChecks, arguments, full_output, standard_input       # noqa: E402
 from random_trace import LENGTHS, RandomTrace       # noqa: E402
 from replay_and_cases import same_calls             # noqa: E402
 from trace_examples_make import EXAMPLES            # noqa: E402
@@ -156,6 +156,7 @@ def main():
     with tempfile.TemporaryDirectory() as folder:
         checks = Checks(program, pathlib.Path(folder), "replay", BY_HAND, PRINTED)
         arguments(checks)
+        full_output(checks)
         standard_input(checks, WRONG[:13], "record")
         small_traces(checks)
         stored_files(checks)

@@ -271,41 +271,71 @@ class Claims(unittest.TestCase):
 
 
 class Refusals(unittest.TestCase):
-    FACT = "specs/Law.antt:3:5: error: `law`: expected `1 ≡ 2`, but this has type `1 ≡ 1`"
+    FACT = "./specs/Law.antt:3:5: error: `law`: expected type `1 ≡ 2`, but this has type `1 ≡ 1`"
 
-    def test_first_error(self):
-        follows = "proofs/Use.antt:1:1: error: `law` was not admitted, so this cannot be checked"
-        self.assertEqual(refused_by_fact.first_error(f"note: x\n{follows}\n{self.FACT}\nsrc/lib.rt:1: error: y\n"), self.FACT)
-        self.assertEqual(refused_by_fact.first_error("fn own::f: no proof: expected a file\n"), "fn own::f: no proof: expected a file")
-        self.assertEqual(refused_by_fact.first_error(f"logic=not-proved\n{follows}\n"), "")
+    def test_lines(self):
+        says = "refused, as it must be"
+        names = "(only because a proof file names what the edit took away, so this says little of the contract): proofs/Law.antt:1:1: error"
+        lines = [f"rt: must-fail own/turned.edit: {says}: {self.FACT}", f"rt: must-fail own/lost.edit: {says} {names}",
+                 f"rt: must-fail own/silent.edit: {says}", f"must-fail own/other.edit: {says}: {self.FACT}",
+                 "rt: must-fail own/proved.edit: NOT REFUSED: the crate is still proved", "rt: must-fail own/bad.edit: BAD EDIT: it changes nothing"]
+        self.assertEqual(refused_by_fact.refusals("\n".join(lines)), {"own/turned": self.FACT, "own/lost": names, "own/silent": ""})
 
     def test_facts(self):
-        for error in (self.FACT, "fn own::f: no proof: expected a file; `search` does not close `Need-a`"):
+        for error in (self.FACT, "note: src/lib.rt:4:9: it is not proved that what the function ensures holds when it returns (`returns`)"):
             self.assertTrue(refused_by_fact.is_fact(error), error)
-        for reason in ("`tie` has no `Need-a`", "`Code` has no `calls-f` that can be named from here", "has no field `size`", "`x` is not in scope",
-                       "Scope: x", "Parse: x", "`f` takes 2 arguments", "expected type `tie.Need-a`, but this has type `tie.Need-b`"):
-            self.assertFalse(refused_by_fact.is_fact(f"proofs/f/Proof.antt:1:1: error: {reason}"), reason)
-        for error in ("", "fn own::f: no proof: expected a file"):
+        for reason in ("`Goals` has no `returns-in-Some`", "`f`: has no field `size`", "`x` is not in scope", "`law` was not admitted, so this ..",
+                       "`f` takes 2 arguments", "`f`: no clause covers 1 case", "`f`: write the clause `f none = ?`"):
+            self.assertFalse(refused_by_fact.is_fact(f"proofs/f/Answers.antt:1:1: error: {reason}"), reason)
+        for error in ("", "(only because a proof file names what the edit took away): x", "(only by a limit of the prover, which gave no verdict): x"):
             self.assertFalse(refused_by_fact.is_fact(error), error)
 
 
 class Verdicts(unittest.TestCase):
-    RIGHT = "logic=proved functions=3 sum=09af native=nat,char,string logic-built=trusted libraries-built=trusted"
+    RIGHT = "logic=proved functions=3 sum=09af native=nat,char,string logic-built=trusted libraries-built=trusted statements=trusted"
+    KEPT = "an earlier run on this machine proved the same files over the same libraries"
 
     def test_right_ones(self):
-        library = self.RIGHT.replace("sum", "target=x86_64-unknown-linux-gnu sum")
-        program = self.RIGHT.replace("sum", "axioms=8 sum")
-        for crate, said in (("own", self.RIGHT), ("own", "fn own::f: proved\n" + library), ("cases", program), ("replay", program)):
-            self.assertIsNone(verdicts.fault(crate, said))
+        library = self.RIGHT.replace("sum", "target=x86_64-unknown-linux-gnu cpu=x86-64-v2 sum")
+        program = library.replace("target", "axioms=33 target")
+        tests = program.replace("functions", "tests=2 functions")
+        for crate, verdict in (("own", self.RIGHT), ("own_c", library), ("cases", program), ("replay", program), ("own: its tests", tests)):
+            self.assertIsNone(verdicts.fault(crate, [verdict]))
+        self.assertIsNone(verdicts.fault("own_c", [f"{library} incremental=trusted"], "incremental=trusted"))
 
     def test_wrong_ones(self):
-        self.assertEqual(verdicts.fault("own", "fn own::f: proved\n"), "0 verdicts")
-        self.assertEqual(verdicts.fault("own", self.RIGHT + "\n" + self.RIGHT), "2 verdicts")
-        for word in ("axioms=8", "foreign=own::f", "cache=trusted", "incremental=trusted", "pinned=no", "crate-checked=trusted"):
-            self.assertEqual(verdicts.fault("own", f"{self.RIGHT} {word}"), f"the verdict has {word}")
-        self.assertIn("not-proved", verdicts.fault("own", "logic=not-proved"))
+        self.assertEqual(verdicts.fault("own", []), "0 verdicts")
+        self.assertEqual(verdicts.fault("own", [self.RIGHT, self.RIGHT]), "2 verdicts")
+        for word in ("axioms=8", "foreign=own::f", "hides=1", "bugs=1", "may-wait=1", "main=Threads", "cache=trusted", "incremental=trusted",
+                     "batches=trusted", "pinned=no", "crate-checked=trusted", "cpu=x86-64-v3"):
+            self.assertEqual(verdicts.fault("own", [f"{self.RIGHT} {word}"]), f"the verdict has {word}")
+        self.assertIn("not-proved", verdicts.fault("own", ["logic=not-proved"]))
+        self.assertEqual(verdicts.fault("own", [self.RIGHT.replace("logic=proved ", "")]), "the verdict has no logic=proved")
+        self.assertIn("cache", verdicts.fault("own_c", [f"{self.RIGHT} cache=trusted incremental=trusted"], "incremental=trusted"))
         for program in ("cases", "replay"):
-            self.assertIn("foreign", verdicts.fault(program, f"{self.RIGHT} foreign={program}::f"))
+            self.assertIn("foreign", verdicts.fault(program, [f"{self.RIGHT} foreign={program}::f"]))
+
+    def test_every_crate(self):
+        """Each is proved in the run, with a verdict in its own section, or kept."""
+        own, low = f"== own\nfn own::f: proved\n{self.RIGHT}\nrt: own proved\n", f"rt: low is kept: {self.KEPT}\n"
+        self.assertEqual(verdicts.verdict_faults(low + own, ["low", "own"]), ([], 1))
+        for said, part in ((low, "own: neither proved nor kept"), (own, "low: neither proved nor kept"),
+                           (low + own.replace("own proved", "own NOT PROVED"), "own: neither"), (low + own.replace(self.RIGHT, ""), "own: neither"),
+                           (low + own + own, "own: 2 verdicts"), (low + own.replace("fn ", f"{self.RIGHT}\nfn "), "own: 2 verdicts"),
+                           (low + own.replace("sum", "hides=1 sum"), "own: the verdict has hides=1"),
+                           (low + own + f"== own: its tests\n{self.RIGHT} cache=trusted\n", "own: its tests: the verdict has cache=trusted")):
+            found, _ = verdicts.verdict_faults(said, ["low", "own"])
+            self.assertEqual((len(found), found[0][:len(part)]), (1, part), said)
+
+    def test_counts(self):
+        well = "rt: ok; handles allowed: none; must-fail edits: 3 refused; every proof and must-fail edit was done in this run\n"
+        self.assertEqual(verdicts.count_faults(well + "5 passed, 0 failed\n", 5, 3), [])
+        for said in ("", "5 passed, 0 failed\n", well + "4 passed, 0 failed\n", well + "5 passed, 1 failed\n", well, well * 2 + "5 passed, 0 failed\n",
+                     well + "5 passed, 0 failed\nmore\n", well.replace("3 ", "2 ") + "5 passed, 0 failed\n",
+                     well.replace("refused;", "refused, 1 bad;") + "5 passed, 0 failed\n",
+                     well.replace("refused;", "refused, 1 of them only by a limit;") + "5 passed, 0 failed\n",
+                     well + "5 passed, 0 failed (own and the crates below alone: not the gate)\n"):
+            self.assertNotEqual(verdicts.count_faults(said, 5, 3), [], said)
 
 
 if __name__ == "__main__":

@@ -1,48 +1,40 @@
 #!/usr/bin/env python3
 """Says why each must-fail edit was refused, and fails if one shows nothing.
 
-Reads target/must-fail/CRATE/LABEL/.log, which rt leaves. An edit is worth something if the first error is a fact that no
-longer holds. Where the first error says that a need or a name is gone or new, the edit only made the proof file unfit for
-the code.
+usage: refused_by_fact.py LOG       what `rt ci` printed
+
+`rt ci` has a line for each edit, with the first error that is no name which a proof file misses. An edit is worth something if that is
+a fact that no longer holds. Where there is none, or where it says that a name or an argument is gone or new, the edit only made the proof
+file unfit for the code; and a limit of the prover is no verdict.
 """
-import glob
-import os
+import pathlib
 import re
 import sys
 
-UNFIT = re.compile(
-    r"has no `Need-|has no `\S+` that can be named|has no field `|is not in scope|Scope:|Parse:|takes \d+ argument"
-    r"|expected type `tie\.Need-\S+`, but this has type `tie\.Need-"
-)
-
-
-def first_error(text):
-    """The first line of a log that blames something of its own, and not what it follows from."""
-    errors = [line for line in text.split("\n") if ": error" in line or (line.startswith("fn ") and "no proof" in line)]
-    own = [line for line in errors if "was not admitted" not in line]
-    return own[0] if own else ""
+TOP = pathlib.Path(__file__).resolve().parent.parent
+REFUSED = re.compile(r"rt: must-fail (\w+/[\w.-]+)\.edit: refused, as it must be(?:: (.*)| (\(.*))?")
+UNFIT = re.compile(r"has no `|has no field |is not in scope|was not admitted|is no name|takes \d+ argument|no clause covers|write the clause"
+                   r"|operand is missing|expected the end|cannot continue")
 
 
 def is_fact(error):
-    if not error or UNFIT.search(error):
-        return False
-    return "no proof: expected" not in error or "`search` does not close" in error
+    return bool(error) and not error.startswith("(") and not UNFIT.search(error)
+
+
+def refusals(said):
+    """By edit, CRATE/LABEL, why it was refused."""
+    found = [REFUSED.fullmatch(line) for line in said.splitlines()]
+    return {line[1]: line[2] or line[3] or "" for line in found if line}
 
 
 def main():
-    root = os.path.join(os.path.dirname(os.path.abspath(__file__)), "..")
-    logs = sorted(glob.glob(os.path.join(root, "target/must-fail/*/*/.log")))
-    edits = glob.glob(os.path.join(root, "crates/*/must-fail/*.edit"))
-    unfit = 0
-    for log in logs:
-        with open(log, encoding="utf-8", errors="replace") as text:
-            error = first_error(text.read())
-        if not is_fact(error):
-            unfit += 1
-            crate, label = log.split(os.sep)[-3:-1]
-            print(f"{crate}/{label}: refused for its shape only: {error[:200] or 'no error line'}")
-    print(f"{len(logs)} of {len(edits)} edits have a log, {len(logs) - unfit} were refused because a fact no longer holds")
-    return 1 if unfit or not logs or len(logs) != len(edits) else 0
+    why = refusals(pathlib.Path(sys.argv[1]).read_text(errors="replace"))
+    edits = sorted(f"{edit.parent.parent.name}/{edit.stem}" for edit in TOP.glob("crates/*/must-fail/*.edit"))
+    unfit = [edit for edit in edits if not is_fact(why.get(edit, ""))]
+    for edit in unfit:
+        print(f"{edit}: " + (f"refused for its shape only: {why[edit][:200] or 'no error line'}" if edit in why else "not refused"))
+    print(f"{len(edits)} edits, {len(edits) - len(unfit)} were refused because a fact no longer holds")
+    return 1 if unfit or not edits else 0
 
 
 if __name__ == "__main__":

@@ -41,10 +41,10 @@ fn sources(name: &str) -> String {
         .collect()
 }
 
-/// The functions stand in one crate and the structs in another, but for the server's, which the
+/// The exports stand in one crate and the structs in another, but for the server's, which the
 /// responder takes as it is.
 fn rattle() -> Interface {
-    let sources = ["responder_rules", "c_structs", "ntp5"].map(sources).concat();
+    let sources = ["responder_rules", "c_structs", "ntp5_c"].map(sources).concat();
     let mut interface = Interface::of_rust(&sources);
     for (function, own, name) in RATTLE_NAMES {
         let parameters = interface.functions.get_mut(function).into_iter().flatten();
