@@ -331,8 +331,10 @@ class Progress(Repository):
     def test_interrupt(self):
         """Neither rt nor what it started is left."""
         for name in (signal.SIGINT, signal.SIGTERM):
+            # What is started in the background ignores SIGINT, and a shell can't trap what it was started ignoring.
             run = subprocess.Popen(("tools/progress", "lib", "crates/ntp5_c", "lib"), cwd=self.top,
-                                   env=self.environment(HOLD="logic="), stderr=subprocess.PIPE, text=True, start_new_session=True)
+                                   env=self.environment(HOLD="logic="), stderr=subprocess.PIPE, text=True, start_new_session=True,
+                                   preexec_fn=lambda: signal.signal(signal.SIGINT, signal.SIG_DFL))
             end = time.monotonic() + 30
             while not (self.top / "held").exists():
                 self.assertLess(time.monotonic(), end)
