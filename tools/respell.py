@@ -28,7 +28,9 @@ def files(top):
 
 
 def is_word(token):
-    return token[0].islower() and HUMP.search(token) is not None and re.fullmatch(r"[\w'′₀-₉≢≡<≤-]+", token) is not None
+    """A name in camel case; in-DraftName is none, since DraftName is a variant, whose name stays."""
+    parts = [part for part in token.split("-") if HUMP.search(part)]
+    return token[0].islower() and any(part[0].islower() for part in parts) and re.fullmatch(r"[\w'′₀-₉≢≡<≤-]+", token) is not None
 
 
 def snake(word):

@@ -31,6 +31,16 @@ module _ (x y : ℤ) (fx : mag x < 2 ^ 63) (fy : mag y < 2 ^ 63) where
       (read_back r fr ∙ g ∙ ap half_down (ap reread f ∙ read_back (pos (count x y)) (omega arith)))
       ∙ offset-halves x y fx fy
 
+pub returns : goal.returns
+returns c =
+    let x = c.args.outward in
+    let y = c.args.back in
+    let fx = c.ranges.outward.sfits in
+    let fy = c.ranges.back.sfits in
+    let hs = halves x y fx fy _ _ c.half.type_inv c.half-2.type_inv c.half.ensures c.half-2.ensures in
+    let os = odds x y fx fy _ _ c.odd.type_inv c.odd-2.type_inv c.odd.ensures c.odd-2.ensures in
+    ap reread (whole x y fx fy _ _ _ hs os c.half-3.type_inv c.half-3.ensures) ∙ read_back (offset x y) (offset-mag x y fx fy)
+
 pub overflow_add-result : goal.overflow_add-result
 overflow_add-result c =
     let x = c.args.outward in
@@ -52,13 +62,3 @@ overflow_add-result-2 c =
     let hs = halves x y fx fy _ _ c.half.type_inv c.half-2.type_inv c.half.ensures c.half-2.ensures in
     let os = odds x y fx fy _ _ c.odd.type_inv c.odd-2.type_inv c.odd.ensures c.odd-2.ensures in
     record { sfits = rw (whole x y fx fy _ _ _ hs os c.half-3.type_inv c.half-3.ensures) (offset-mag x y fx fy) }
-
-pub returns : goal.returns
-returns c =
-    let x = c.args.outward in
-    let y = c.args.back in
-    let fx = c.ranges.outward.sfits in
-    let fy = c.ranges.back.sfits in
-    let hs = halves x y fx fy _ _ c.half.type_inv c.half-2.type_inv c.half.ensures c.half-2.ensures in
-    let os = odds x y fx fy _ _ c.odd.type_inv c.odd-2.type_inv c.odd.ensures c.odd-2.ensures in
-    ap reread (whole x y fx fy _ _ _ hs os c.half-3.type_inv c.half-3.ensures) ∙ read_back (offset x y) (offset-mag x y fx fy)
