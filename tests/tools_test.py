@@ -53,6 +53,7 @@ class Contracts(unittest.TestCase):
             ("pub fn part(s: &[u8]) -> &[u8]", "result.now ≡ base s.now"),
             ('pub extern "C" fn put(s: &mut [u8], v: u8)', "s.new ≡ twice (record { v = v; old = s.old })"),
             ("pub fn mode(b: bool) -> Mode", "twice result ≡ b"),
+            ("pub fn read(s: &[u8]) -> u8", "(t : ℕ) → twice result t ≡ base s.now t"),
             ("pub fn step(self, n: u8) -> u8", "result ≡ (twice self.at n)"),
             ("pub fn kind(record: Kind) -> u8", "result ≡ twice «record»"),
             ("pub const fn any<T: Into<u8>, F: Fn(u8) -> u8>(t: T, f: F) -> u8\n    where T: Copy", "result ≡ twice t f"),
@@ -69,11 +70,33 @@ class Contracts(unittest.TestCase):
         self.refused("2 equations", CLEAR, "(result ≡ 0) × (result ≡ 1)")
         self.refused("at its top level", CLEAR, "(result ≡ cleared")
         self.refused("binds a name", CLEAR, "result ≡ cleared (λ store. store)")
+        self.refused("a name already", CLEAR, "(max_len : ℕ) → " + RIGHT)
+        self.refused("a name already", CLEAR, "(twice : ℕ) → " + RIGHT)
+        self.refused("does not name its result", CLEAR, "(t : ℕ) → " + RIGHT.replace("result", "t"))
+        for condition in ("(h : ⊥)", "(h : 1 ≡ 2)", "(h : result ≡ 0)", "(h : List ⊥)"):
+            self.refused("at its top level", CLEAR, f"{condition} → {RIGHT}")
         self.refused("`requires`", CLEAR + "\n    requires { ⊤ }", RIGHT)
         self.refused("`requires*`", CLEAR + "\n    requires* { emp }", RIGHT)
         self.refused("`ensures*`", CLEAR + "\n    ensures* { emp }", RIGHT)
         self.refused("`ghost`", CLEAR + "\n    ghost max_len: { ℕ }", RIGHT)
         self.refused("can't be read", CLEAR, RIGHT + " }\n    promises { ⊤")
+
+    def test_conversions(self):
+        impl = USES + "impl From<Option<u8>> for Answer {\n    ghost from_gives = { λ n r. SAID };\n}\n"
+        right = "r ≡ twice n"
+
+        def found(text):
+            [(name, faults)] = contracts.faults(text, lambda file: RULES.get(file, set()))
+            self.assertTrue(name.endswith("From for Answer"), name)
+            return faults
+
+        for said in (right, "(t : ℕ) → twice r t ≡ base n", "(r ≡ twice n) × (base r ≡ twice n)"):
+            self.assertEqual(found(impl.replace("SAID", said)), [], said)
+        for said in ("r ≡ r", "n ≡ n", "(n ≡ n) ⊎ (r ≡ twice n)", "⊤", "r ≡ twice r", "r ≡ n", "(h : ⊥) → r ≡ twice n", "(n : ℕ) → r ≡ twice n",
+                     "r ≡ twice (λ n. n)"):
+            self.assertNotEqual(found(impl.replace("SAID", said)), [], said)
+        for text in (impl.replace("from_gives", "gives"), impl.replace("From", "TryFrom"), impl.replace("λ n r.", "gives n r")):
+            self.assertNotEqual(found(text.replace("SAID", right)), [], text)
 
     def test_comments_are_no_contract(self):
         self.refused("0 `ensures`", CLEAR + "\n    /*\n    ensures { " + RIGHT + " }\n    */", "")

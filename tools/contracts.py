@@ -10,6 +10,10 @@ contract would go unnoticed. Of each public function is asked that it has no `re
 - of which one side is a call of a definition that stands in a file of `specs/`.
 
 `IfOk result (λ r. A ≡ B)` is such an equation of r, what a call that succeeds returns, and lacks what holds of one that fails.
+`(x : X) → A ≡ B` is one for every x, where x is no other name of the function or its file. A `From` or `TryFrom` is held to the
+same, by its ghost member, which may join equations by `×`.
+
+The methods of a `pub trait` are not looked at: those of `Number` and `Element` ask that there is room, which the functions over them test.
 """
 
 import functools
@@ -39,32 +43,25 @@ PARTLY = "says nothing of a call that fails"
 
 # What the contract of a function lacks, and why that is right. An entry that is not needed in full fails.
 WRITER = {unnamed("to"), not_left("to")}
-SILENT = {*WRITER, PARTLY, headed("r", "tt")}
+OF_RESULT = {PARTLY, headed("r", "tt")}
+SILENT = {*WRITER, *OF_RESULT}
+# A `Row` has the writer, and the row whose line is printed.
+ROW = {unnamed("row")}
+SILENT_ROW = {unnamed("self"), *OF_RESULT}
 PRINTED = "the result tells of the writer alone; the row is the form of the printed line, and what is left does not depend on it"
 PRINTS = "it prints, what is written is not stated, and its signature lends it nothing to change but the writer"
 KIT = "the kit's definition is the plain statement: one of specs/ would only rename it"
-WIDENED = "the same number in a wider type"
 EXEMPT = {
-    "actions/src/lib.rt:run": ({*WRITER, RESULT_LOST, unnamed("row")}, PRINTED),
-    "changes/src/lib.rt:run": ({*WRITER, RESULT_LOST, unnamed("row")}, PRINTED),
-    "octets/src/sign.rt:from_octet": ({headed("result", "to_z")}, KIT),
-    "octets/src/sign.rt:from_u64": ({headed("result", "to_z")}, KIT),
-    "octets/src/sign.rt:from_word": ({headed("result", "to_z")}, KIT),
-    "octets/src/sign.rt:to_octet": ({headed("result", "of_z")}, KIT),
-    "octets/src/sign.rt:to_word": ({headed("result", "of_z")}, KIT),
-    "print/src/convert.rt:from_i16": ({headed("result", "of_z")}, KIT),
-    "print/src/convert.rt:from_i64": ({headed("result", "of_z")}, KIT),
-    "print/src/convert.rt:from_i8": ({headed("result", "of_z")}, KIT),
-    "print/src/convert.rt:from_u16": ({headed("result", "x")}, WIDENED),
-    "print/src/convert.rt:from_u32": ({headed("result", "x")}, WIDENED),
-    "print/src/convert.rt:from_u8": ({headed("result", "x")}, WIDENED),
+    "actions/src/lib.rt:run": ({*ROW, RESULT_LOST}, PRINTED),
+    "changes/src/lib.rt:run": ({*ROW, RESULT_LOST}, PRINTED),
     "print/src/lib.rt:failure": ({*SILENT, *map(unnamed, ("what", "error"))}, PRINTS),
-    "print/src/lib.rt:line": ({*SILENT, *map(unnamed, ("row", "values", "octets"))}, PRINTS),
-    "print/src/lib.rt:numbered": ({*SILENT, *map(unnamed, ("number", "row", "values", "octets"))}, PRINTS),
-    "print/src/lib.rt:problem": ({*SILENT, *map(unnamed, ("number", "word", "problem"))}, PRINTS),
-    "print/src/lib.rt:result": ({*SILENT, *map(unnamed, ("row", "refusal", "octets"))}, PRINTS),
-    "queries/src/lib.rt:run": ({*SILENT, *map(unnamed, ("call", "row", "line", "table"))}, PRINTS),
+    "print/src/lib.rt:line": ({*SILENT_ROW, *map(unnamed, ("values", "octets"))}, PRINTS),
+    "print/src/lib.rt:numbered": ({*SILENT_ROW, *map(unnamed, ("number", "values", "octets"))}, PRINTS),
+    "print/src/lib.rt:result": ({*SILENT_ROW, *map(unnamed, ("outcome", "octets"))}, PRINTS),
+    "print/src/lib.rt:text": ({*SILENT, unnamed("text")}, PRINTS),
+    "queries/src/lib.rt:run": ({*ROW, *OF_RESULT, *map(unnamed, ("query", "line", "table"))}, PRINTS),
     "rows/src/lib.rt:call_of": ({*WRITER, PARTLY, unnamed("number")}, "only the writer fails, and the line's number is only printed"),
+    "source/src/lib.rt:start": ({*OF_RESULT, *map(unnamed, ("rt", "program"))}, "what a program writes is not stated, and nothing is lent to it to change"),
     "text/src/lib.rt:rest": ({headed("result", "drop")}, KIT),
     "words/src/octet_word.rt:octets_of": ({not_left("buffer")}, "the buffer is lent on in the result, and has no value at exit"),
 }
@@ -190,8 +187,27 @@ def succeeding(said):
     return None
 
 
+# The types of what a contract may bind at its start: data, so that what follows is not promised under a condition.
+EVERY = (["ℕ"], ["List", "ℕ"])
+
+
+def for_every(said):
+    """The names that a contract binds at its start, and the rest, which is to hold for every value of these."""
+    bound = []
+    while said[:1] == ["("] and ":" in said and ")" in said:
+        colon, closed = said.index(":"), said.index(")")
+        if said[colon + 1:closed] not in EVERY or said[closed + 1:closed + 2] != ["→"]:
+            break
+        bound += map(antt_text.unescaped, said[1:colon])
+        said = said[closed + 2:]
+    return bound, said
+
+
 def promise_faults(function, promise, scope, is_definition):
-    said = tokens(promise)
+    bound, said = for_every(tokens(promise))
+    for name in bound:
+        if name in scope or name in {RESULT, *(antt_text.unescaped(name) for name, _ in function.parameters)}:
+            yield f"binds `{name}`, which is a name already"
     part = succeeding(said)
     result, inner = part or (RESULT, said)
     if part:
@@ -220,8 +236,41 @@ def promise_faults(function, promise, scope, is_definition):
         yield from equation_faults(function, result, sides, is_definition)
 
 
+CONVERSION = re.compile(r"\bimpl\b[^{;]*?\b(Try)?From<[^{;]*?\bfor\s+([^{;]*?)\s*(?:\bwhere\b[^{;]*)?\{")
+MEMBER = re.compile(r"\s*λ\s+(\S+)\s+(\S+)\.(.*)", re.S)
+
+
+def conversion_faults(text, scope, is_definition):
+    """Each `From` and `TryFrom` of a file, with what it lacks. The library's trait promises what the impl's ghost member says: here
+    one equation, or several joined by `×`, of what is given and what comes of it."""
+    text = rattle_text.without_comments(text)
+    for found in CONVERSION.finditer(text):
+        member = "try_from_gives" if found[1] else "from_gives"
+        block = text[found.end() - 1:rattle_text.matching(text, found.end() - 1)]
+        at = re.search(rf"\bghost\s+{member}\s*=\s*\{{", block)
+        said = at and MEMBER.fullmatch(block[at.end():rattle_text.matching(block, at.end() - 1)])
+        yield f"{found[1] or ''}From for {' '.join(found[2].split())}", list(given_faults(said, scope, is_definition)) if said else [
+            f"has no `{member}` that says what it gives"]
+
+
+def given_faults(said, scope, is_definition):
+    given = rattle_text.Function("from", [(said[1], False)], True, [])
+    bound, inner = for_every(tokens(said[3]))
+    if BINDERS & set(inner) or {said[1], said[2], *bound} & set(scope) or len({said[1], said[2], *bound}) != len(bound) + 2:
+        yield "binds a name that is one already"
+    try:
+        words = {word for name in scope for word in name.split("◌") if "◌" in name} - CLOSER - {"≡"}
+        equations = [equation(part, words) for part in split(unwrapped(tree(inner)), "×")]
+    except NotAnEquation:
+        yield "is not an equation at its top level"
+        return
+    for sides in equations:
+        yield from equation_faults(given, said[2], sides, is_definition)
+
+
 def faults(text, definitions):
-    """Each public function of a file, with what its contract lacks. `definitions` has the names that a file of `specs/` defines."""
+    """Each public function and each conversion of a file, with what its contract lacks. `definitions` has the names that a file of
+    `specs/` defines."""
     scope = rattle_text.brought(text)
 
     def is_definition(name):
@@ -229,6 +278,7 @@ def faults(text, definitions):
         files = [(antt_text.specs_file(module), inner) for module, inner in sources]
         return len(files) == 1 and files[0][0] is not None and files[0][1] in definitions(files[0][0])
 
+    yield from conversion_faults(text, scope, is_definition)
     for function in rattle_text.functions(text):
         found = [f"has a `{kind}`" for kind, _ in function.clauses if kind != "ensures"]
         promises = [said for kind, said in function.clauses if kind == "ensures"]
@@ -257,7 +307,7 @@ def verdict(seen, wrong):
         print(f"contracts: {line}")
     if wrong or not seen:
         return 1
-    print(f"contracts: {len(seen)} public functions, each fixed by one equation, {len(EXEMPT)} with an exemption")
+    print(f"contracts: {len(seen)} public functions and conversions, each fixed by equations, {len(EXEMPT)} with an exemption")
     return 0
 
 

@@ -1,5 +1,5 @@
 -- A call with the values of a line's words does to the store what the line asks. Assumes nothing.
-use mathlib.Core.Path.{◌≡◌, refl, ap, ◌∙◌}
+use mathlib.Core.Path.{◌≡◌, ap, ◌∙◌}
 use mathlib.Core.Bool.{Bool, true, false, cond}
 use mathlib.Core.List.{List, []}
 use Prim.Native.Nat.{ℕ, ◌+◌, ◌-◌, ◌*◌, ◌%◌, ◌<◌, ◌≤◌}
@@ -11,10 +11,14 @@ use Rattle.octets.specs.Number.{put_at}
 use Rattle.octets.specs.Part.{copy_at}
 use Rattle.words.specs.Line.{number_at, bits_at, octets_at}
 use Rattle.store_rules.specs.Row.{wrong_size, store_octets, size_of, cleared, reporting}
-use Rattle.responder_rules.specs.Answer.{Outcome, outcome, answer_named}
-use Rattle.responder_rules.specs.declared.Answered.{Answered}
-use Rattle.responder_rules.specs.declared.Answered.TheVariants.{Written, Refused}
-use Rattle.actions.specs.Given.{given_from}
+use Rattle.responder_rules.specs.Answer.{Given, given, Outcome, outcome, answer_named}
+use Rattle.header.specs.declared.edition.Edition.{Edition}
+use Rattle.responder_rules.specs.declared.Server.{Server}
+use Rattle.refusal.specs.Refusal.{refusal_number}
+use Rattle.refusal.specs.declared.Refusal.{Refusal}
+use Rattle.refusal.specs.declared.Refusal.TheVariants.{BadLength, BadVersion, BadMode, BadField, BadPadding, BadArgument, BadState, BadCookie, NotAsked, NotInterleaved, NoRoom, NotStored, AfterMac}
+use Rattle.actions.specs.Given.{server_of}
+use Rattle.std.proofs.Common.{Result}
 use Rattle.actions.specs.Kept.{length_of, store_of, store_reported, store_answered, store_after, kept_cleared, kept_lent, kept_after}
 
 module _ (line s s' : List ℕ) where
@@ -22,31 +26,35 @@ module _ (line s s' : List ℕ) where
   unfolding store_reported
   reported r c t e f z = ap (λ (w : ℕ × List ℕ). w.1) z ∙ rw (e, f)
 
-  outcome-store : (a : Answered) (out : List ℕ) → s' ≡ (outcome a out s').store
-  outcome-store (Written n) out = refl
-  outcome-store (Refused n) out = refl
-
   -- the store of an answer, where its output was written
-  pub answered : (a : Answered) (request filter information out out' : List ℕ) → out ≡ octets_at line 18
-      → outcome a out' s' ≡ answer_named (bits_at 8 line 1) (given_from line request filter information) s out
-      → s' ≡ (answer_named (bits_at 8 line 1) (given_from line request filter information) s (octets_at line 18)).store
-  answered a request filter information out out' e z =
-      outcome-store a out' ∙ ap (λ (o : Outcome). o.store) z ∙ rw e
+  pub answered : (n : ℕ) (g : Edition → Given) (r : Result ℕ ℕ) (out out' : List ℕ) → out ≡ octets_at line 18 → n ≡ bits_at 8 line 1
+      → outcome r out' s' ≡ answer_named n g s out → s' ≡ (answer_named (bits_at 8 line 1) g s (octets_at line 18)).store
+  answered n g r out out' e f z = ap (λ (o : Outcome). o.store) z ∙ rw (e, f)
 
-  -- and its other octets
-  pub answered-all : (request filter information : List ℕ)
-      → request ≡ octets_at line 2 → filter ≡ octets_at line 16 → information ≡ octets_at line 17
-      → s' ≡ (answer_named (bits_at 8 line 1) (given_from line request filter information) s (octets_at line 18)).store → s' ≡ store_answered line s
+  -- and what it was given
+  pub answered-all : (request filter information : List ℕ) (receive estimate fresh : ℕ) (server : Server)
+      → request ≡ octets_at line 2 → receive ≡ number_at line 3 → estimate ≡ number_at line 4 → fresh ≡ number_at line 5 → server ≡ server_of line
+      → filter ≡ octets_at line 16 → information ≡ octets_at line 17
+      → s' ≡ (answer_named (bits_at 8 line 1) (given request receive estimate fresh server filter information) s (octets_at line 18)).store
+      → s' ≡ store_answered line s
   unfolding store_answered
-  answered-all request filter information e f g z = z ∙ rw (e, f, g)
+  answered-all request filter information receive estimate fresh server e f g h i j k z = z ∙ rw (e, f, g, h, i, j, k)
 
-  pub on-report : (call : ℕ) → call ≡ 17 → s' ≡ store_reported line s → s' ≡ store_after call line s
-  unfolding store_after
-  on-report call k z = z ∙ rw k
-
-  pub on-answer : (call : ℕ) → (call ≡ 17 → ⊥) → s' ≡ store_answered line s → s' ≡ store_after call line s
-  unfolding store_after
-  on-answer call k z = z ∙ rw (ne_eqb call 17 k)
+-- no refusal has the number 0
+pub some_refusal : (r : Refusal) → refusal_number r ≡ 0 → ⊥
+some_refusal BadLength e = omega arith
+some_refusal BadVersion e = omega arith
+some_refusal BadMode e = omega arith
+some_refusal BadField e = omega arith
+some_refusal BadPadding e = omega arith
+some_refusal BadArgument e = omega arith
+some_refusal BadState e = omega arith
+some_refusal BadCookie e = omega arith
+some_refusal NotAsked e = omega arith
+some_refusal NotInterleaved e = omega arith
+some_refusal NoRoom e = omega arith
+some_refusal NotStored e = omega arith
+some_refusal AfterMac e = omega arith
 
 module _ (kept : List ℕ) where
   pub lent : (kept' kept'' octets octets' : List ℕ) → octets ≡ octets' → kept' ≡ put_at kept 0 2 (length octets % 4097)
@@ -92,9 +100,15 @@ module _ (call : ℕ) (line kept : List ℕ) where
     unfolding kept_after
     run-lend kept' k z = z ∙ rw (le-ltb (length kept) 4098 h, k)
 
-    pub run_store : (end : ℕ) (s : List ℕ) → (call ≡ 15 → ⊥) → (call ≡ 16 → ⊥) → end ≡ length_of kept + 2
-        → s ≡ store_after call line (take (end - 2) (drop 2 kept)) → put_mid 2 (end - 2) kept s ≡ kept_after call line kept
-    unfolding kept_after
-    run_store end s k l e z =
-        let f : end - 2 ≡ length_of kept = omega arith in
-        rw (le-ltb (length kept) 4098 h, ne_eqb call 15 k, ne_eqb call 16 l) (rw (z, f))
+    module _ (end : ℕ) (s : List ℕ) (e : end ≡ length_of kept + 2) where
+      pub run-report : call ≡ 17 → s ≡ store_reported line (take (end - 2) (drop 2 kept)) → put_mid 2 (end - 2) kept s ≡ kept_after call line kept
+      unfolding kept_after store_after
+      run-report k z =
+          let f : end - 2 ≡ length_of kept = omega arith in
+          rw (le-ltb (length kept) 4098 h, k) (rw (z, f))
+
+      pub run-answer : call ≡ 18 → s ≡ store_answered line (take (end - 2) (drop 2 kept)) → put_mid 2 (end - 2) kept s ≡ kept_after call line kept
+      unfolding kept_after store_after
+      run-answer k z =
+          let f : end - 2 ≡ length_of kept = omega arith in
+          rw (le-ltb (length kept) 4098 h, k) (rw (z, f))

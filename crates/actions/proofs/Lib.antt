@@ -1,1 +1,2 @@
 mod Keeping
+pub mod ByNumber

@@ -7,20 +7,20 @@ use native.Mathlib.Omega.{arith}
 use lib.ListN.{length}
 use Rattle.chain.specs.Chain.{padded, step_at}
 use Rattle.chain.specs.Content.{Content, chain_octets}
-use Rattle.chain.specs.Field.{fields_from}
+use Rattle.chain.specs.Field.{fields_from, fields_of}
 use Rattle.field_role.specs.Role.{role_of, none_met, met_after, role_with, is_answered, SizeAllowed}
 use Rattle.chain.specs.declared.cursor.Cursor.{Cursor}
 use Rattle.chain.specs.declared.cursor.Field.{Field}
 use Rattle.chain.specs.declared.cursor.Step.{Step}
-use Rattle.chain.specs.declared.cursor.Step.TheVariants.{Found, End}
+use Rattle.chain.specs.declared.cursor.Step.TheVariants.{Found}
 use Rattle.field_role.specs.declared.Met.{Met}
 use Rattle.field_role.specs.declared.Role.{Role}
-use Rattle.chain.proofs.Steps.{Stopped, at-an-end, at-end, reached, place-reached}
+use Rattle.chain.proofs.Steps.{Stopped, reached, place-reached}
 use Rattle.chain.proofs.Contents.{chain-append}
 use Rattle.chain.proofs.Fields.{no_field, next_field}
 use Rattle.field_role.proofs.Roles.{size-allowed, met_of, met_next, role-met, unanswered-role, unanswered-met}
 use Rattle.responder_rules.specs.Answer.{answer_to, answers_to}
-use Rattle.answer_fields.specs.Pass.{answers_with}
+use Rattle.answer_fields.specs.Pass.{answers_with, Parts, Sizes, AnswersWritten}
 use Rattle.field_write.specs.Write.{WrittenAt}
 use Rattle.field_write.proofs.Writing.{written_none, written_next, length-written}
 use Rattle.responder_rules.proofs.Room.{answer-size}
@@ -46,11 +46,11 @@ module _ (s filter information : List ℕ) where
       rw (role-met s before f, met_next before f) (ap (λ (cs : List Content). answer_to filter information f (role_of s before f) ++ cs) (pass-answers (before ++ (f ∷ [])) fs))
 
   -- an answer that was written over octets with room for the field that it answers
-  pub answer-written : length filter ≡ 512 → length information ≡ 4 → (f : Field) (r : Role) → SizeAllowed f r → {o t : List ℕ} {at next : ℕ}
+  pub answer-written : Parts filter information → (f : Field) (r : Role) → SizeAllowed f r → {o t : List ℕ} {at next : ℕ}
       → WrittenAt o at (chain_octets (answer_to filter information f r)) next t → at + (4 + padded f.size) ≤ length o
       → (length t ≡ length o) × (next ≤ at + (4 + padded f.size))
-  answer-written e i f r k l h =
-      let size = answer-size s filter information e i f r k in
+  answer-written p f r k l h =
+      let size = answer-size s filter information p.filter p.information f r k in
       let place = l.place in
       (length-written l (omega arith), omega arith)
 
@@ -68,38 +68,30 @@ module _ (s filter information out₀ : List ℕ) where
 
   module _ {place : ℕ} {m : Met} {at : ℕ} {out : List ℕ} (p : Passing s filter information out₀ place m at out) where
     -- no field is left
-    pass-done : answers_with s filter information m (fields_from s place) ≡ []
-        → WrittenAt out₀ 48 (chain_octets (answers_with s filter information none_met (fields_from s 48))) at out × (at ≤ length s)
+    pub pass-stops : (t : Step) → t ≡ step_at s place → Stopped t → AnswersWritten s filter information (fields_of s) out₀ at out
     unfolding chain_octets
-    pass-done e =
+    pass-stops t e o =
         let a = p.low in
         let b = p.high in
-        (p.rest at out (rw e (written_none out at)) (omega arith), omega arith)
-
-    pub pass-stops : (t : Step) → t ≡ step_at s place → Stopped t
-        → WrittenAt out₀ 48 (chain_octets (answers_with s filter information none_met (fields_from s 48))) at out × (at ≤ length s)
-    pass-stops t e o = pass-done (pass-ended s filter information place t e m o)
-
-    pub pass-ends : length s ≤ place
-        → WrittenAt out₀ 48 (chain_octets (answers_with s filter information none_met (fields_from s 48))) at out × (at ≤ length s)
-    pass-ends h = pass-stops End (sym (at-end s place h)) at-an-end
+        record { written = p.rest at out (rw (pass-ended s filter information place t e m o) (written_none out at)) (omega arith); most = omega arith }
 
     -- a field is found, and its answer is written
-    module _ (filters : length filter ≡ 512) (four : length information ≡ 4) (room : length s ≤ length out₀) (t : Step) (e : t ≡ step_at s place)
-        (f : Field) (c : Cursor) (q : t ≡ Found f c) where
+    module _ (z : Sizes s filter information out₀) (t : Step) (e : t ≡ step_at s place) (f : Field) (c : Cursor) (q : t ≡ Found f c) where
       pub pass-room : at + (4 + padded f.size) ≤ length out
       pass-room =
           let a = p.low in
           let b = p.same in
+          let room = z.room in
           let r = reached s place t f c e q in
           omega (arith, (place-reached s place f c (sym e ∙ q)).0)
 
       pub pass-goes-on : {role : Role} {next : ℕ} {out' : List ℕ} {m' : Met} → role ≡ role_with s f m → m' ≡ met_after m f.kind
           → WrittenAt out at (chain_octets (answer_to filter information f role)) next out' → Passing s filter information out₀ c.at m' next out'
       pass-goes-on {role} {next} {out'} {m'} er em l =
-          let written = answer-written s filter information filters four f role (subst⁻¹ (SizeAllowed f) er (size-allowed _ s f)) l pass-room in
+          let written = answer-written s filter information z.parts f role (subst⁻¹ (SizeAllowed f) er (size-allowed _ s f)) l pass-room in
           let a = p.low in
           let b = p.same in
+          let room = z.room in
           let r = reached s place t f c e q in
           record {
             same = written.0 ∙ b;

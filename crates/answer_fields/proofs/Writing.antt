@@ -15,9 +15,8 @@ use Rattle.field_write.specs.Write.{WrittenAt, put_field}
 use Rattle.field_write.proofs.Writing.{field_put}
 use Rattle.responder_rules.specs.Answer.{padding_of}
 
--- the two parts of a source that are sent from its start
-
-pub name-cut : (k : ℕ) → take (min k 27) (drop 0 draft_name) ≡ take k draft_name
+-- as many octets of our name as are asked, if there are so many
+pub name-cut : (k : ℕ) → take (min k 27) draft_name ≡ take k draft_name
 unfolding draft_name
 name-cut k = go (leb k 27) refl
   where
@@ -48,15 +47,15 @@ part-written s source at kind from to n size h inside most room e =
 -- what is left filled with one padding field, or with none
 
 module _ (s : List ℕ) (at : ℕ) where
-  pub padding-none : length s ≤ at → s ≡ take at s ++ chain_octets (padding_of (length s - at))
+  pub padding_none : length s ≤ at → s ≡ take at s ++ chain_octets (padding_of (length s - at))
   unfolding chain_octets
-  padding-none h =
+  padding_none h =
       let z : length s - at ≡ 0 = omega arith in
       rw (z, take_all at s h) (sym (append-nil s))
 
-  pub padding-written : at < length s → length s ≤ 1280 → (length s - at) % 4 ≡ 0 → {next : ℕ} {t : List ℕ}
+  pub padding_written : at < length s → length s ≤ 1280 → (length s - at) % 4 ≡ 0 → {next : ℕ} {t : List ℕ}
       → (next, t) ≡ put_field s at (content 0xF501 (replicate (length s - at - 4) 0)) → t ≡ take at s ++ chain_octets (padding_of (length s - at))
-  padding-written h most k e =
+  padding_written h most k e =
       let m = length s - at in
       let c = content 0xF501 (replicate (m - 4) 0) in
       let size = length-replicate {A = ℕ} (m - 4) 0 in

@@ -9,8 +9,7 @@ use lib.Dec.{eqb, ltb}
 use lib.ListN.{length}
 use Rattle.header.specs.declared.Header.{Header}
 use Rattle.header.specs.declared.ServerCookie.{ServerCookie}
-use Rattle.header.specs.declared.Reading.{Reading}
-use Rattle.header.specs.declared.Reading.TheVariants.{Fields, Refused}
+use Rattle.std.specs.Prelude.{Result, Ok, Err}
 use Rattle.store_rules.specs.Row.{Record, held, time_of, without, joined, used_of}
 use Rattle.store_rules.specs.Place.{index_of}
 use Rattle.octets.proofs.Tests.{or-none}
@@ -21,8 +20,7 @@ use Rattle.records.proofs.Moves.{leave-past}
 use Rattle.records.proofs.Sounds.{Sound, held-row, time-row, time-at, right-sound}
 use Rattle.responder_rules.specs.Answer.{wants_interleaved, saved_time, row_after, wrong_fresh, refused_answer}
 use Rattle.answer_plan.specs.Step.{Stepped, stepped, row_in_records, refused_step, answer_step}
-use Rattle.answer_plan.specs.Value.{request_cookie, unchanged_plan, keeping_plan, plan_for, plan_of}
-use Rattle.answer_plan.specs.declared.Plan.{Plan}
+use Rattle.answer_plan.specs.Value.{Plan, request_cookie, unchanged_plan, keeping_plan, plan_for, plan_of}
 use Rattle.answer_plan.proofs.RowInRecords.{row-most, right-row, leave-row, join-row}
 
 module _ (rs : List Record) (fresh_cookie : ServerCookie) where
@@ -104,15 +102,15 @@ module _ (rs : List Record) (fresh_cookie : ServerCookie) where
         go false = refl
 
   -- what was found in the records
-  abbrev pub plan_on : Reading → (short : Bool) → Plan
+  abbrev pub plan_on : Result Header ℕ → (short : Bool) → Plan
   plan_on request short =
       let at = index_of (request_cookie request).0 rs in
       plan_of (wrong_records rs) request short fresh_cookie (length rs) (index_of fresh_cookie.0 rs) at (time_at rs at)
 
-  pub plan-steps : (request : Reading) (short : Bool) → step_by (plan_on request short) ≡ answer_step request short fresh_cookie.0 rs
+  pub plan-steps : (request : Result Header ℕ) (short : Bool) → step_by (plan_on request short) ≡ answer_step request short fresh_cookie.0 rs
   unfolding answer_step
-  plan-steps (Refused number) short = refl
-  plan-steps (Fields asked) short = go (wrong_records rs) refl
+  plan-steps (Err number) short = refl
+  plan-steps (Ok asked) short = go (wrong_records rs) refl
     where
       at : ℕ
       at = index_of asked.server_cookie.0 rs

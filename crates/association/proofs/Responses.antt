@@ -16,7 +16,7 @@ use Rattle.header.specs.Edition.{most_timescale}
 use Rattle.header.specs.declared.edition.Edition.{Edition}
 use Rattle.header.specs.declared.edition.Edition.TheVariants.{One, Seven}
 use Rattle.exchange.specs.Judging.{outcome_of}
-use Rattle.exchange.specs.declared.response.Response.{Response}
+use Rattle.exchange.specs.Response.{Response}
 use Rattle.octets.proofs.Tests.{by-test}
 
 -- a response's timescale is one that the edition holds, its server cookie fits, and its chunk lies in the datagram, which is of octets; in

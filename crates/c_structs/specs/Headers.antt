@@ -1,9 +1,7 @@
 -- A header of the C interface and the core's, field by field.
-use Rattle.std.specs.Prelude.{ℕ, pos}
+use Rattle.std.specs.Prelude.{Result, Ok, Err, ℕ, pos}
 use Rattle.header.specs.Edition.{edition_of}
 use Rattle.header.specs.declared.Header as core
-use Rattle.header.specs.declared.Reading.{Reading}
-use Rattle.header.specs.declared.Reading.TheVariants.{Fields, Refused}
 use Rattle.c_structs.specs.declared.headers.Header.{Header}
 use Rattle.c_structs.specs.declared.headers.Read.{Read}
 
@@ -46,9 +44,9 @@ no_header = record {
   transmit = 0;
 }
 
-abbrev pub read_of : Reading → Read
-read_of (Fields h) = record { refusal = 0; header = of_header h }
-read_of (Refused n) = record { refusal = n; header = no_header }
+abbrev pub read_of : Result core.Header ℕ → Read
+read_of (Ok h) = record { refusal = 0; header = of_header h }
+read_of (Err n) = record { refusal = n; header = no_header }
 
 -- of the edition of a number
 abbrev pub core_header : ℕ → Header → core.Header

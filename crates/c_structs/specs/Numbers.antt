@@ -7,7 +7,7 @@ use Rattle.c_structs.specs.declared.answers.Received.{Received}
 use Rattle.c_structs.specs.declared.answers.Verdict.{Verdict}
 use Rattle.c_structs.specs.declared.answers.Weight.{Weight}
 use Rattle.c_structs.specs.declared.answers.Measurement as c
-use Rattle.measure.specs.declared.Measurement.{Measurement}
+use Rattle.measure.specs.Measure.{Measurement}
 
 abbrev pub written_numbers : Written → (out : List ℕ) → Answer
 written_numbers r out = record {

@@ -1,14 +1,15 @@
 // The structs of the C interface. C has no enums that hold values, so each case of a core answer becomes its numbers (G-11).
 ghost use Rattle.std.specs.Prelude.{◌≡◌, []};
+ghost use Rattle.refusal.specs.Refusal.{by_number};
+ghost use Rattle.measure.specs.Measure.{measured};
 ghost use Rattle.filter_weight.specs.Weighing.{numbers};
 ghost use Rattle.client_rules.specs.Call.{plain_answer};
 ghost use Rattle.client.specs.Answers.{is_interleaved, polled_answer, published_answer, received_answer, verdict_answer_of};
 ghost use Rattle.responder_rules.specs.Answer.{outcome};
 ghost use Rattle.c_structs.specs.Numbers.{written_numbers, received_numbers, verdict_numbers, outcome_numbers, weight_numbers, measurement_numbers};
 
-use client::{Mode, Polled, Published};
-use filter_weight::Weighing;
-use responder_rules::Answered;
+use client::{Measured, Mode};
+use refusal::Refusal;
 
 // How many octets were written; 0 in a refusal (N-27).
 #[repr(C)]
@@ -20,7 +21,7 @@ pub struct Written {
 
 // A response's judgement (C-23 to C-26, W206-5), its chunk's outcome (C-20), and its measurement.
 #[repr(C)]
-#[derive(Clone, Copy)]
+#[derive(Clone, Copy, Default)]
 pub struct Received {
     pub refusal: u8,
     pub judgement: u8,
@@ -53,7 +54,7 @@ pub struct Measurement {
     pub delay: u64,
 }
 
-// C's bool for the mode that a poll wants.
+// C's bool for the mode that a poll wants. No `From`: neither type is declared in this crate.
 pub fn mode(interleaved: bool) -> Mode
     ensures { is_interleaved result ≡ interleaved }
 {
@@ -64,34 +65,27 @@ pub fn mode(interleaved: bool) -> Mode
     }
 }
 
-pub fn of_polled(polled: Polled) -> Written
-    ensures { written_numbers result [] ≡ polled_answer polled [] }
-{
-    match polled {
-        Polled::Written(length) => Written { refusal: 0, length },
-        Polled::Refused(refusal) => Written { refusal, length: 0 },
+// How many octets a poll or an answer has written.
+impl From<Result<u16, Refusal>> for Written {
+    ghost from_gives = { λ said w. (written_numbers w [] ≡ polled_answer said [])
+        × (outcome_numbers w [] [] ≡ outcome (by_number said) [] []) };
+
+    fn from(said: Result<u16, Refusal>) -> Written {
+        match said {
+            Ok(length) => Written { refusal: 0, length },
+            Err(refusal) => Written {
+                refusal: refusal.number(),
+                length: 0,
+            },
+        }
     }
 }
 
-pub fn of_published(published: Published) -> Written
+// A published filter's 512 octets.
+pub fn of_published(published: Result<(), Refusal>) -> Written
     ensures { written_numbers result [] ≡ published_answer published [] }
 {
-    match published {
-        Published::Written => Written {
-            refusal: 0,
-            length: 512,
-        },
-        Published::Refused(refusal) => Written { refusal, length: 0 },
-    }
-}
-
-pub fn of_answered(answered: Answered) -> Written
-    ensures { outcome_numbers result [] [] ≡ outcome answered [] [] }
-{
-    match answered {
-        Answered::Written(length) => Written { refusal: 0, length },
-        Answered::Refused(refusal) => Written { refusal, length: 0 },
-    }
+    Written::from(published.map(|()| 512))
 }
 
 // N-27: a number and zeros.
@@ -100,66 +94,91 @@ pub fn of_refusal(refusal: u8) -> Received
 {
     Received {
         refusal,
-        judgement: 0,
-        chunk: 0,
-        offset: 0,
-        delay: 0,
+        ..Received::default()
     }
 }
 
-pub fn of_received(received: client::Received) -> Received
-    ensures { received_numbers result ≡ received_answer received }
-{
-    match received {
-        client::Received::Accepted(measured) => Received {
-            refusal: 0,
-            judgement: measured.judgement,
-            chunk: measured.chunk,
-            offset: measured.offset,
-            delay: measured.delay,
-        },
-        client::Received::Refused(refusal) => of_refusal(refusal),
+impl From<Result<Measured, Refusal>> for Received {
+    ghost from_gives = { λ said r. received_numbers r ≡ received_answer said };
+
+    fn from(said: Result<Measured, Refusal>) -> Received {
+        let response = match said {
+            Ok(response) => response,
+            Err(refusal) => return of_refusal(refusal.number()),
+        };
+        let chunk = response.chunk.number();
+        match response.measurement {
+            Ok(measurement) => Received {
+                chunk,
+                offset: measurement.offset,
+                delay: measurement.delay,
+                ..Received::default()
+            },
+            Err(unusable) => Received {
+                judgement: unusable.number(),
+                chunk,
+                ..Received::default()
+            },
+        }
     }
 }
 
-pub fn of_verdict(verdict: client::Verdict) -> Verdict
-    ensures { verdict_numbers result ≡ verdict_answer_of verdict }
+fn verdict_number(verdict: client::Verdict) -> u8
+    ensures { result ≡ (verdict_answer_of (Ok verdict)).verdict }
 {
     match verdict {
-        client::Verdict::Incomplete => Verdict {
-            refusal: 0,
-            verdict: 1,
-        },
-        client::Verdict::Loop => Verdict {
-            refusal: 0,
-            verdict: 2,
-        },
-        client::Verdict::Clear => Verdict {
-            refusal: 0,
-            verdict: 3,
-        },
-        client::Verdict::Refused(refusal) => Verdict {
-            refusal,
-            verdict: 0,
-        },
+        client::Verdict::Incomplete => 1,
+        client::Verdict::Loop => 2,
+        client::Verdict::Clear => 3,
     }
 }
 
-pub fn of_weighing(weighing: Weighing) -> Weight
-    ensures { weight_numbers result ≡ numbers weighing }
-{
-    match weighing {
-        Weighing::Weight(weight) => Weight { refusal: 0, weight },
-        Weighing::Refused(refusal) => Weight { refusal, weight: 0 },
+impl From<Result<client::Verdict, Refusal>> for Verdict {
+    ghost from_gives = { λ said v. verdict_numbers v ≡ verdict_answer_of said };
+
+    fn from(said: Result<client::Verdict, Refusal>) -> Verdict {
+        match said {
+            Ok(verdict) => Verdict {
+                refusal: 0,
+                verdict: verdict_number(verdict),
+            },
+            Err(refusal) => Verdict {
+                refusal: refusal.number(),
+                verdict: 0,
+            },
+        }
     }
 }
 
-pub fn of_measurement(measurement: measure::Measurement) -> Measurement
-    ensures { measurement_numbers result ≡ measurement }
-{
-    Measurement {
-        judgement: measurement.judgement,
-        offset: measurement.offset,
-        delay: measurement.delay,
+impl From<Result<u16, Refusal>> for Weight {
+    ghost from_gives = { λ said w. weight_numbers w ≡ numbers (by_number said) };
+
+    fn from(said: Result<u16, Refusal>) -> Weight {
+        match said {
+            Ok(weight) => Weight { refusal: 0, weight },
+            Err(refusal) => Weight {
+                refusal: refusal.number(),
+                weight: 0,
+            },
+        }
+    }
+}
+
+impl From<Option<measure::Measurement>> for Measurement {
+    ghost from_gives = { λ said m. measurement_numbers m ≡ measured said };
+
+    fn from(said: Option<measure::Measurement>) -> Measurement {
+        match said {
+            Some(measurement) => Measurement {
+                judgement: 0,
+                offset: measurement.offset,
+                delay: measurement.delay,
+            },
+            None => Measurement {
+                judgement: 5,
+                offset: 0,
+                delay: 0,
+            },
+        }
     }
 }

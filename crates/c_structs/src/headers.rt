@@ -1,12 +1,14 @@
 // A header as C has it: its cookies are plain numbers, which the core keeps in two types, and its edition is an argument of the calls.
 ghost use Rattle.std.specs.Prelude.{◌≡◌};
-ghost use Rattle.c_structs.specs.Headers.{of_header, no_header, read_of, core_header};
+ghost use Rattle.refusal.specs.Refusal.{by_number};
+ghost use Rattle.c_structs.specs.Headers.{of_header, read_of, core_header};
 
 use header::edition::edition_of;
-use header::{ClientCookie, Reading, ServerCookie};
+use header::{ClientCookie, ServerCookie};
+use refusal::Refusal;
 
 #[repr(C)]
-#[derive(Clone, Copy)]
+#[derive(Clone, Copy, Default)]
 pub struct Header {
     pub leap: u8,
     pub mode: u8,
@@ -32,64 +34,44 @@ pub struct Read {
     pub header: Header,
 }
 
-fn of_header(header: header::Header) -> Header
-    ensures { result ≡ of_header header }
-{
-    let server_cookie = header.server_cookie;
-    let client_cookie = header.client_cookie;
-    Header {
-        leap: header.leap,
-        mode: header.mode,
-        stratum: header.stratum,
-        poll: header.poll,
-        precision: header.precision,
-        timescale: header.timescale,
-        era: header.era,
-        timescale_offset: header.timescale_offset,
-        flags: header.flags,
-        root_delay: header.root_delay,
-        root_dispersion: header.root_dispersion,
-        server_cookie: server_cookie.0,
-        client_cookie: client_cookie.0,
-        receive: header.receive,
-        transmit: header.transmit,
-    }
-}
+impl From<header::Header> for Header {
+    ghost from_gives = { λ fields h. h ≡ of_header fields };
 
-// The header of a refusal.
-fn no_header() -> Header
-    ensures { result ≡ no_header }
-{
-    Header {
-        leap: 0,
-        mode: 0,
-        stratum: 0,
-        poll: 0,
-        precision: 0,
-        timescale: 0,
-        era: 0,
-        timescale_offset: 0,
-        flags: 0,
-        root_delay: 0,
-        root_dispersion: 0,
-        server_cookie: 0,
-        client_cookie: 0,
-        receive: 0,
-        transmit: 0,
-    }
-}
-
-pub fn read_of(reading: Reading) -> Read
-    ensures { result ≡ read_of reading }
-{
-    match reading {
-        Reading::Fields(fields) => {
-            let header = of_header(fields);
-            Read { refusal: 0, header }
+    fn from(fields: header::Header) -> Header {
+        Header {
+            leap: fields.leap,
+            mode: fields.mode,
+            stratum: fields.stratum,
+            poll: fields.poll,
+            precision: fields.precision,
+            timescale: fields.timescale,
+            era: fields.era,
+            timescale_offset: fields.timescale_offset,
+            flags: fields.flags,
+            root_delay: fields.root_delay,
+            root_dispersion: fields.root_dispersion,
+            server_cookie: fields.server_cookie.0,
+            client_cookie: fields.client_cookie.0,
+            receive: fields.receive,
+            transmit: fields.transmit,
         }
-        Reading::Refused(refusal) => {
-            let header = no_header();
-            Read { refusal, header }
+    }
+}
+
+// N-27: a refusal has a header of zeros.
+impl From<Result<header::Header, Refusal>> for Read {
+    ghost from_gives = { λ said r. r ≡ read_of (by_number said) };
+
+    fn from(said: Result<header::Header, Refusal>) -> Read {
+        match said {
+            Ok(fields) => Read {
+                refusal: 0,
+                header: Header::from(fields),
+            },
+            Err(refusal) => Read {
+                refusal: refusal.number(),
+                header: Header::default(),
+            },
         }
     }
 }
@@ -98,11 +80,8 @@ pub fn read_of(reading: Reading) -> Read
 pub fn core_header(edition: u8, fields: Header) -> header::Header
     ensures { result ≡ core_header edition fields }
 {
-    let edition = edition_of(edition as u64);
-    let server_cookie = ServerCookie(fields.server_cookie);
-    let client_cookie = ClientCookie(fields.client_cookie);
     header::Header {
-        edition,
+        edition: edition_of(u64::from(edition)),
         leap: fields.leap,
         mode: fields.mode,
         stratum: fields.stratum,
@@ -114,8 +93,8 @@ pub fn core_header(edition: u8, fields: Header) -> header::Header
         flags: fields.flags,
         root_delay: fields.root_delay,
         root_dispersion: fields.root_dispersion,
-        server_cookie,
-        client_cookie,
+        server_cookie: ServerCookie(fields.server_cookie),
+        client_cookie: ClientCookie(fields.client_cookie),
         receive: fields.receive,
         transmit: fields.transmit,
     }

@@ -10,7 +10,7 @@ use trace_rules::{Action, Fault, Found, Record};
 
 // W208-13: what was found, where the next record begins, and what the call answered; all but state and next are 0 where none was made.
 #[repr(C)]
-#[derive(Clone, Copy)]
+#[derive(Clone, Copy, Default)]
 pub struct Replayed {
     pub state: u8,
     pub kind: u8,
@@ -51,10 +51,9 @@ fn kind_of(action: Action) -> u8
 pub fn of_made(record: Record, next: usize, answered: Received, length: u16) -> Replayed
     ensures { result ≡ made_numbers «record» next (received_numbers answered) length }
 {
-    let action = record.action;
     Replayed {
         state: 1,
-        kind: kind_of(action),
+        kind: kind_of(record.action),
         association: record.association,
         next,
         refusal: answered.refusal,
@@ -82,14 +81,7 @@ fn stopped(state: u8, at: usize) -> Replayed
 {
     Replayed {
         state,
-        kind: 0,
-        association: 0,
         next: at,
-        refusal: 0,
-        judgement: 0,
-        chunk: 0,
-        length: 0,
-        offset: 0,
-        delay: 0,
+        ..Replayed::default()
     }
 }

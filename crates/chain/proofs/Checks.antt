@@ -10,8 +10,8 @@ use Rattle.chain.specs.Field.{fields_from}
 use Rattle.chain.specs.declared.cursor.Cursor.{Cursor}
 use Rattle.chain.specs.declared.cursor.Field.{Field}
 use Rattle.chain.specs.declared.cursor.Step.{Step}
-use Rattle.chain.specs.declared.cursor.Step.TheVariants.{Found, End}
-use Rattle.chain.proofs.Steps.{View, ended, cut, few, past, nonzero, sound, view, Stopped, wrong-length, wrong-padding, at-an-end}
+use Rattle.chain.specs.declared.cursor.Step.TheVariants.{Found}
+use Rattle.chain.proofs.Steps.{View, ended, cut, few, past, nonzero, sound, view, Stopped, wrong-length, wrong-padding}
 use Rattle.chain.proofs.Walks.{walk-ended, walk-stop, walk-next, chain-stop, chain_next}
 use Rattle.chain.proofs.Fields.{no_field, next_field}
 use Rattle.chain.proofs.Macs.{mac-from}
@@ -40,21 +40,7 @@ module _ (s : List ℕ) (t : Step) (e : t ≡ step_at s 0) where
 pub end_after : (s : List ℕ) (at : ℕ) → length s ≤ at → 0 ≡ or_else (step_refusal (walk s at).stop) (after_refusal (fields_from s at))
 end_after s at h = sym (ap (λ (w : Walk). or_else (step_refusal w.stop) (after_refusal w.fields)) (walk-ended s at h))
 
-not-ended : (s : List ℕ) (at : ℕ) (t : Step) → View s at t → at < length s → t ≡ End → ⊥
-not-ended s at t (ended h) l q = omega arith
-not-ended s at t (cut h i) l q = let z : ◌≡◌ {A = ℕ} 0 1 = cc in omega arith
-not-ended s at t (few h i) l q = let z : ◌≡◌ {A = ℕ} 0 1 = cc in omega arith
-not-ended s at t (past h i j) l q = let z : ◌≡◌ {A = ℕ} 0 1 = cc in omega arith
-not-ended s at t (nonzero h i j d) l q = let z : ◌≡◌ {A = ℕ} 0 1 = cc in omega arith
-not-ended s at t (sound h i j d) l q = let z : ◌≡◌ {A = ℕ} 0 1 = cc in omega arith
-
 module _ (s : List ℕ) (at : ℕ) (inside : at < length s) where
-  -- no field is found: the step's refusal is that of the whole
-  pub wrong-after : (t : Step) → t ≡ step_at s at → Stopped t → (whole later : ℕ) → step_refusal t ≡ whole → step_refusal t ≡ or_else whole later
-  wrong-after t e wrong-length whole later q = ap (λ (n : ℕ). or_else n later) q
-  wrong-after t e wrong-padding whole later q = ap (λ (n : ℕ). or_else n later) q
-  wrong-after t e at-an-end whole later q = absurd (not-ended s at (step_at s at) (view s at) inside (sym e))
-
   -- all that follows is sound: there is a field
   pub field-after : step_refusal (walk s at).stop ≡ 0 → 13 ≡ or_else (step_refusal (walk s at).stop) (after_refusal (fields_from s at))
   field-after e = rw (eq-eqb _ _ e) (sym (go (step_at s at) (view s at) refl))

@@ -17,18 +17,18 @@ use Rattle.chain.specs.Field.{first_of, data_of, DataChanged}
 use Rattle.chain.specs.Claim.{FieldsAligned, DataEdited}
 use Rattle.chain.specs.declared.cursor.Field.{Field}
 use Rattle.chain.specs.declared.cursor.Step.{Step}
-use Rattle.chain.specs.declared.find.Occurrence.TheVariants.{At}
+use Rattle.std.specs.Prelude.{Some}
 use Rattle.chain.proofs.Steps.{length_at, View, ended, cut, few, past, nonzero, sound, view}
 use Rattle.chain.proofs.Walks.{later, chain-from}
 use Rattle.chain.proofs.Macs.{mac-from}
 
 -- the first field of a type is one of the fields
-pub first-in : (kind : ℕ) (fs : List Field) (f : Field) → first_of kind fs ≡ At f → Memᴰ f fs
+pub first-in : (kind : ℕ) (fs : List Field) (f : Field) → first_of kind fs ≡ Some f → Memᴰ f fs
 unfolding first_of
 first-in kind [] f e = let z : ◌≡◌ {A = ℕ} 0 1 = cc in absurd (omega arith)
 first-in kind (g ∷ fs) f e = go (eqb g.kind kind) (first-in kind fs f) e
   where
-    go : (b : Bool) → (first_of kind fs ≡ At f → Memᴰ f fs) → cond b (At g) (first_of kind fs) ≡ At f → Memᴰ f (g ∷ fs)
+    go : (b : Bool) → (first_of kind fs ≡ Some f → Memᴰ f fs) → cond b (Some g) (first_of kind fs) ≡ Some f → Memᴰ f (g ∷ fs)
     go true later q = let e : f ≡ g = cc in Memᴰ.head e
     go false later q = Memᴰ.tail (later q)
 

@@ -12,20 +12,20 @@ use Rattle.octets.proofs.Tests.{by-test, by-outcome}
 use Rattle.chain.specs.Chain.{after_mac, after_refusal}
 use Rattle.chain.specs.Field.{fields_from, first_of, NothingAfterMac}
 use Rattle.chain.specs.declared.cursor.Field.{Field}
-use Rattle.chain.specs.declared.find.Occurrence.TheVariants.{At, Absent}
+use Rattle.std.specs.Prelude.{Some, None}
 use Rattle.chain.proofs.Walks.{shifted_fields, fields-from}
 
 -- neither the first field is a MAC nor any of the rest
-absent-parts : (f : Field) (fs : List Field) → first_of 0xF502 (f ∷ fs) ≡ Absent → (eqb f.kind 0xF502 ≡ false) × (first_of 0xF502 fs ≡ Absent)
+absent-parts : (f : Field) (fs : List Field) → first_of 0xF502 (f ∷ fs) ≡ None → (eqb f.kind 0xF502 ≡ false) × (first_of 0xF502 fs ≡ None)
 unfolding first_of
 absent-parts f fs n = go (eqb f.kind 0xF502) n
   where
-    go : (b : Bool) → cond b (At f) (first_of 0xF502 fs) ≡ Absent → (b ≡ false) × (first_of 0xF502 fs ≡ Absent)
+    go : (b : Bool) → cond b (Some f) (first_of 0xF502 fs) ≡ None → (b ≡ false) × (first_of 0xF502 fs ≡ None)
     go true n = let z : ◌≡◌ {A = ℕ} 0 1 = cc in absurd (omega arith)
     go false n = (refl, n)
 
 -- the fields after a MAC that has none before it
-after_first : (before after : List Field) (mac : Field) → first_of 0xF502 before ≡ Absent → mac.kind ≡ 0xF502 → after_mac (before ++ (mac ∷ after)) ≡ after
+after_first : (before after : List Field) (mac : Field) → first_of 0xF502 before ≡ None → mac.kind ≡ 0xF502 → after_mac (before ++ (mac ∷ after)) ≡ after
 after_first [] after mac none e = rw (eq-eqb _ _ e)
 after_first (f ∷ before) after mac none e = let p = absent-parts f before none in rw p.0 (after_first before after mac p.1 e)
 
@@ -42,7 +42,7 @@ pub nothing-after : (fs : List Field) → after_mac fs ≡ [] ↔ NothingAfterMa
 nothing-after fs = (λ h before after mac q none e. sym (after_first before after mac none e) ∙ ap after_mac (sym q) ∙ h, none_after fs)
 
 -- where no field is a MAC, none stands after one
-pub absent-after : (fs : List Field) → first_of 0xF502 fs ≡ Absent → after_mac fs ≡ []
+pub absent-after : (fs : List Field) → first_of 0xF502 fs ≡ None → after_mac fs ≡ []
 absent-after [] n = refl
 absent-after (f ∷ fs) n = let p = absent-parts f fs n in rw p.0 (absent-after fs p.1)
 

@@ -1,12 +1,18 @@
--- A datagram's refusal is one of 1 to 5 and 13, or 0. Assumes nothing.
+-- A datagram's refusal is one of 1 to 5 and 13, or 0, and the first of two that applies. Assumes nothing.
+use mathlib.Core.Path.{◌≡◌}
 use mathlib.Core.List.{List, [], ◌∷◌}
 use Prim.Native.Nat.{ℕ}
+use native.Mathlib.Omega.{arith}
+use borrow.Author.Tests.{ne_eqb}
 use lib.Dec.{eqb}
 use lib.ListN.{drop}
+use Rattle.refusal.specs.declared.Refusal.{Refusal}
+use Rattle.refusal.specs.Refusal.{refusal_number}
+use Rattle.refusal.proofs.Numbers.{number_above_none}
 use Rattle.octets.proofs.Tests.{by-test}
 use Rattle.header.specs.Header.{refusal}
 use Rattle.header.proofs.Refusals.{header-number}
-use Rattle.chain.specs.Chain.{step_refusal, walk, chain_refusal, after_mac, after_refusal, sound_refusal}
+use Rattle.chain.specs.Chain.{step_refusal, walk, chain_refusal, after_mac, after_refusal, or_else, sound_refusal}
 use Rattle.chain.specs.declared.cursor.Field.{Field}
 use Rattle.chain.specs.declared.cursor.Step.{Step}
 use Rattle.chain.specs.declared.cursor.Step.TheVariants.{Found, WrongLength, WrongPadding, End}
@@ -28,3 +34,7 @@ sound-number P none one two three four five thirteen s wanted =
     mac : (fs : List Field) → P (after_refusal fs)
     mac [] = none
     mac (f ∷ fs) = thirteen
+
+-- the first of two refusals, where it applies
+pub first-refusal : (r : Refusal) (first second : ℕ) → refusal_number r ≡ first → refusal_number r ≡ or_else first second
+first-refusal r first second e = let above = number_above_none r in rw (← e, ne_eqb (refusal_number r) 0 (λ q. omega arith))

@@ -4,7 +4,9 @@ use mathlib.Core.Bool.{Bool}
 use mathlib.Core.List.{List}
 use Prim.Native.Nat.{ℕ}
 use lib.IntN.{ℤ}
-use borrow.Author.Tests.{ne_eqb}
+use Rattle.changes.specs.declared.Change.{Change}
+use Rattle.changes.specs.declared.Change.TheVariants.{Clear, Open, Close, Poll, Sent, Receive}
+use Rattle.changes.specs.Rows.{row_number}
 use Rattle.words.specs.Line.{number_at, bits_at, signed_at, octets_at}
 use Rattle.client_rules.specs.Call.{Call, Answer, clear_table, open_one, close_one, poll, sent, receive}
 use Rattle.client_rules.specs.Numbers.{step_numbers}
@@ -22,33 +24,30 @@ module _ (line : List ℕ) where
   unfolding receive_of
   receive-as a datagram t4 f g h = rw (f, g, h)
 
-module _ (line : List ℕ) (call : ℕ) where
-  pub change-clear : call ≡ 7 → clear_table ≡ change_of call line
+-- the call of each row
+module _ (line : List ℕ) (change : Change) where
+  pub change-clear : change ≡ Clear → clear_table ≡ call_of (row_number change) line
   unfolding change_of
   change-clear k = rw k
 
-  pub change-open : (a edition timescale c : ℕ) → call ≡ 8 → a ≡ bits_at 8 line 1 → edition ≡ bits_at 8 line 2 → timescale ≡ bits_at 8 line 3 → c ≡ bits_at 16 line 4
-      → open_one a edition timescale c ≡ change_of call line
+  pub change-open : (a edition timescale c : ℕ) → change ≡ Open → a ≡ bits_at 8 line 1 → edition ≡ bits_at 8 line 2 → timescale ≡ bits_at 8 line 3
+      → c ≡ bits_at 16 line 4 → open_one a edition timescale c ≡ call_of (row_number change) line
   unfolding change_of
   change-open a edition timescale c k f e g h = rw (k, f, e, g, h)
 
-  pub change-close : (a : ℕ) → call ≡ 9 → a ≡ bits_at 8 line 1 → close_one a ≡ change_of call line
+  pub change-close : (a : ℕ) → change ≡ Close → a ≡ bits_at 8 line 1 → close_one a ≡ call_of (row_number change) line
   unfolding change_of
   change-close a k f = rw (k, f)
 
-  pub change-sent : (a t1 : ℕ) → (call ≡ 7 → ⊥) → (call ≡ 8 → ⊥) → (call ≡ 9 → ⊥) → a ≡ bits_at 8 line 1 → t1 ≡ number_at line 2
-      → sent a t1 ≡ change_of call line
+  pub change-sent : (a t1 : ℕ) → change ≡ Sent → a ≡ bits_at 8 line 1 → t1 ≡ number_at line 2 → sent a t1 ≡ call_of (row_number change) line
   unfolding change_of
-  change-sent a t1 k l m f g = rw (ne_eqb call 7 k, ne_eqb call 8 l, ne_eqb call 9 m, f, g)
+  change-sent a t1 k f g = rw (k, f, g)
 
-  pub call-poll : call ≡ 10 → poll_of line ≡ call_of call line
-  call-poll k = rw k
+  pub change-poll : change ≡ Poll → poll_of line ≡ call_of (row_number change) line
+  change-poll k = rw k
 
-  pub call-receive : call ≡ 12 → receive_of line ≡ call_of call line
-  call-receive k = rw k
-
-  pub call-change : (call ≡ 10 → ⊥) → (call ≡ 12 → ⊥) → change_of call line ≡ call_of call line
-  call-change k l = rw (ne_eqb call 10 k, ne_eqb call 12 l)
+  pub change-receive : change ≡ Receive → receive_of line ≡ call_of (row_number change) line
+  change-receive k = rw k
 
 -- the table that a call leaves, where it is another call's
 pub left : (r : Answer) (t t' : List ℕ) (x y : Call) → x ≡ y → (r, t') ≡ step_numbers x t → t' ≡ (step_numbers y t).1
@@ -57,3 +56,6 @@ left r t t' x y e z = ap (λ (w : Answer × List ℕ). w.1) z ∙ ap (λ (v : Ca
 pub after : (line t t' : List ℕ) (call : ℕ) (x : Call) → x ≡ call_of call line → t' ≡ (step_numbers x t).1 → t' ≡ table_after call line t
 unfolding table_after
 after line t t' call x e z = z ∙ ap (λ (v : Call). (step_numbers v t).1) e
+
+pub after_step : (line t t' : List ℕ) (call : ℕ) (x : Call) (r : Answer) → x ≡ call_of call line → (r, t') ≡ step_numbers x t → t' ≡ table_after call line t
+after_step line t t' call x r e z = after line t t' call x e (ap (λ (w : Answer × List ℕ). w.1) z)

@@ -1,1 +1,2 @@
 mod Changing
+pub mod ByNumber

@@ -1,38 +1,33 @@
-// The result lines of calls whose answer is an enum.
-use print::convert::{from_i64, from_u8, from_u16};
+// The result lines of calls that answer more than a refusal.
+use client::Measured;
+use print::Row;
+use refusal::Refusal;
 use std::io;
 use std::io::Write;
 
 pub(crate) fn polled<W: Write>(
-    to: &mut W,
-    row: &[u8],
-    polled: client::Polled,
+    row: Row<'_, W>,
+    polled: Result<u16, Refusal>,
     output: &[u8],
 ) -> io::Result<()> {
     match polled {
-        client::Polled::Refused(number) => print::result(to, row, number, output),
-        client::Polled::Written(length) => print::line(to, row, &[0, from_u16(length), 0], output),
+        Err(refusal) => row.result(Err(refusal), output),
+        Ok(length) => row.line(&[0, u64::from(length), 0], output),
     }
 }
 
 pub(crate) fn received<W: Write>(
-    to: &mut W,
-    row: &[u8],
-    received: client::Received,
+    row: Row<'_, W>,
+    received: Result<Measured, Refusal>,
 ) -> io::Result<()> {
     match received {
-        client::Received::Refused(number) => print::result(to, row, number, row),
-        client::Received::Accepted(m) => print::line(
-            to,
-            row,
-            &[
-                0,
-                from_u8(m.judgement),
-                from_u8(m.chunk),
-                from_i64(m.offset),
-                m.delay,
-            ],
-            row,
-        ),
+        Err(refusal) => row.result(Err(refusal), b""),
+        Ok(measured) => {
+            let chunk = u64::from(measured.chunk.number());
+            match measured.measurement {
+                Ok(m) => row.line(&[0, 0, chunk, m.offset.cast_unsigned(), m.delay], b""),
+                Err(why) => row.line(&[0, u64::from(why.number()), chunk, 0, 0], b""),
+            }
+        }
     }
 }

@@ -16,8 +16,8 @@ use Rattle.state.specs.Plain.{Place, is_last, place_do}
 use Rattle.state.specs.Numbers.{cookie_in, place_in}
 use Rattle.association.specs.Encode.{decode}
 use Rattle.association.specs.Step.{on_numbers}
-use Rattle.state.specs.declared.event.Event.TheVariants.{Poll}
-use Rattle.state.specs.declared.event.Reply.{Reply}
+use Rattle.state.specs.Event.{Poll}
+use Rattle.state.specs.Reply.{Reply}
 use Rattle.state.specs.declared.head.Head.{Head}
 use Rattle.state.proofs.Chunks.{chunk-size}
 use Rattle.state.proofs.Ranges.{open-ranges}

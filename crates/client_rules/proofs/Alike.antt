@@ -11,10 +11,9 @@ use Rattle.chain.specs.Chain.{sound_refusal}
 use Rattle.chain.specs.Field.{fields_of}
 use Rattle.chain.specs.Content.{Content, content, contents_of, AllFit}
 use Rattle.chain.proofs.Contents.{contents-written}
-use Rattle.exchange.specs.Response.{response_of}
-use Rattle.exchange.specs.declared.response.Response.{Response}
+use Rattle.exchange.specs.Response.{response_of, Response}
 use Rattle.exchange.proofs.Alike.{first_data, first-skips, Alike, responses-alike}
-use Rattle.state.specs.declared.event.Event.TheVariants.{Receive}
+use Rattle.state.specs.Event.{Receive}
 use Rattle.state.proofs.Alike.{alike-done}
 use Rattle.association.specs.Step.{on_numbers}
 use Rattle.client_rules.specs.Call.{receive, receive_answer}

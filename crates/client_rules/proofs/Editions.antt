@@ -17,8 +17,8 @@ use Rattle.exchange.specs.Response.{response_of}
 use Rattle.exchange.proofs.Responses.{none-present}
 use Rattle.state.specs.Plain.{Opened, Place, closed, opened, place_filter, place_edition, all_taken, place_do}
 use Rattle.state.specs.Numbers.{count_taken}
-use Rattle.state.specs.declared.event.Event.TheVariants.{Receive, Look}
-use Rattle.state.specs.declared.event.Reply.{Reply}
+use Rattle.state.specs.Event.{Receive, Look}
+use Rattle.state.specs.Reply.{Reply}
 use Rattle.state.proofs.Flags.{all_first}
 use Rattle.state.proofs.Refused.{by-request}
 use Rattle.association.proofs.Reached.{GoodPlace, GoodOpened, ranges, flags-back, none-taken}

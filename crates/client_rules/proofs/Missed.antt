@@ -17,9 +17,8 @@ use Rattle.poll_request.proofs.Requests.{length-poll_octets}
 use Rattle.poll_request.proofs.Polls.{poll-header-read}
 use Rattle.state.specs.Plain.{Opened, Place, closed, opened, is_last, sent_cookie, place_do}
 use Rattle.state.specs.Numbers.{place_head}
-use Rattle.state.specs.declared.event.Event.{Event}
-use Rattle.state.specs.declared.event.Event.TheVariants.{Poll}
-use Rattle.state.specs.declared.event.Reply.{Reply}
+use Rattle.state.specs.Event.{Event, Poll}
+use Rattle.state.specs.Reply.{Reply}
 use Rattle.state.specs.declared.head.Head.{Head}
 use Rattle.state.proofs.Chunks.{chunk-size}
 use Rattle.state.proofs.Missed.{counted-cookie}

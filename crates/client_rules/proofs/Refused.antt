@@ -15,9 +15,8 @@ use Rattle.poll_request.specs.Request.{poll_length}
 use Rattle.state.specs.Rules.{openable}
 use Rattle.state.specs.Range.{in_range}
 use Rattle.state.specs.Plain.{Place, closed, opened, is_last, place_do}
-use Rattle.state.specs.declared.event.Event.{Event}
-use Rattle.state.specs.declared.event.Event.TheVariants.{Open, Close, Poll, Sent, Receive, Look}
-use Rattle.state.specs.declared.event.Reply.{Reply}
+use Rattle.state.specs.Event.{Event, Open, Close, Poll, Sent, Receive, Look}
+use Rattle.state.specs.Reply.{Reply}
 use Rattle.octets.proofs.Tests.{by-test}
 use Rattle.association.specs.Record.{head_of, record_size}
 use Rattle.association.specs.Encode.{decode}

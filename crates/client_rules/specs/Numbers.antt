@@ -7,8 +7,8 @@ use Rattle.state.specs.Plain.{Place}
 use Rattle.association.specs.Record.{head_size, record_size}
 use Rattle.association.specs.Encode.{encode}
 use Rattle.association.specs.Step.{on_numbers}
-use Rattle.state.specs.declared.event.Event.{Event}
-use Rattle.state.specs.declared.event.Reply.{Reply}
+use Rattle.state.specs.Event.{Event}
+use Rattle.state.specs.Reply.{Reply}
 use Rattle.client_rules.specs.Call.{Call, Answer}
 use Rattle.client_rules.specs.Select.{Seen}
 use Rattle.client_rules.specs.Step.{Table, event_on, seen, step}

@@ -3,9 +3,8 @@ use Rattle.std.specs.Prelude.{Bool, cond, ◌&&◌, List, [], ℕ, ltb, length}
 use Rattle.header.specs.declared.edition.Edition.{Edition}
 use Rattle.exchange.specs.Response.{response_of}
 use Rattle.state.specs.Rules.{plain_reply}
-use Rattle.state.specs.declared.event.Event.{Event}
-use Rattle.state.specs.declared.event.Event.TheVariants.{Open, Close, Poll, Sent, Receive, Look}
-use Rattle.state.specs.declared.event.Reply.{Reply}
+use Rattle.state.specs.Event.{Event, Open, Close, Poll, Sent, Receive, Look}
+use Rattle.state.specs.Reply.{Reply}
 use Rattle.client_rules.specs.Call.{Call, clear_table, open_one, close_one, poll, sent, receive, loop_verdict, publish, Answer, plain_answer, refusal_answer, poll_answer, receive_answer}
 use Rattle.client_rules.specs.Select.{Seen, verdict_for, publish_for}
 

@@ -14,8 +14,7 @@ use Rattle.octets.proofs.Tests.{by-test}
 use Rattle.chain.specs.Chain.{either_refusal}
 use Rattle.chain.specs.Field.{fields_of, first_of}
 use Rattle.chain.specs.declared.cursor.Field.{Field}
-use Rattle.chain.specs.declared.find.Occurrence.{Occurrence}
-use Rattle.chain.specs.declared.find.Occurrence.TheVariants.{At, Absent}
+use Rattle.std.specs.Prelude.{Option, Some, None}
 use Rattle.chain.proofs.Fields.{fields-inside, first-is}
 use Rattle.chain.proofs.Datagrams.{either-sound}
 use Rattle.chain.proofs.Edits.{first-in, fields-aligned}
@@ -25,13 +24,13 @@ use Rattle.correction_rules.specs.Claim.{Correctable, CorrectedExactly, Refusals
 
 -- ---- the good field
 
-good-first : (o : Occurrence) (f : Field) → good_only o ≡ At f → (o ≡ At f) × (f.size ≡ 24)
-good-first (At g) f e = go (good_correction g.size) refl e
+good-first : (o : Option Field) (f : Field) → good_only o ≡ Some f → (o ≡ Some f) × (f.size ≡ 24)
+good-first (Some g) f e = go (good_correction g.size) refl e
   where
-    go : (b : Bool) → good_correction g.size ≡ b → cond b (At g) Absent ≡ At f → (At g ≡ At f) × (f.size ≡ 24)
+    go : (b : Bool) → good_correction g.size ≡ b → cond b (Some g) None ≡ Some f → (Some g ≡ Some f) × (f.size ≡ 24)
     go true q e = let w : g ≡ f = cc in (e, rw (← w) (eqb-true g.size 24 q))
     go false q e = let z : ◌≡◌ {A = ℕ} 0 1 = cc in absurd (omega arith)
-good-first Absent f e = let z : ◌≡◌ {A = ℕ} 0 1 = cc in absurd (omega arith)
+good-first None f e = let z : ◌≡◌ {A = ℕ} 0 1 = cc in absurd (omega arith)
 
 -- where it stands
 pub record Standing (f : Field) (s : List ℕ) : Type 0 where
@@ -42,7 +41,7 @@ pub record Standing (f : Field) (s : List ℕ) : Type 0 where
   pub four : f.start % 4 ≡ 0
   pub room : f.start + 24 ≤ length s
 
-pub standing : (s : List ℕ) (f : Field) → correction_of s ≡ At f → Standing f s
+pub standing : (s : List ℕ) (f : Field) → correction_of s ≡ Some f → Standing f s
 unfolding correction_of
 standing s f e =
     let g = good-first (first_of 0xF506 (fields_of s)) f e in
@@ -81,9 +80,9 @@ module _ (d : ℤ) (i e : ℕ) (s : List ℕ) where
     unfolding corrected
     by_field = rw (eq-eqb _ _ sound)
 
-    module _ (f : Field) (good : correction_of s ≡ At f) where
-      at_field : corrected d i e s ≡ corrected_at (At f) d i e s
-      at_field = by_field ∙ ap (λ (o : Occurrence). corrected_at o d i e s) good
+    module _ (f : Field) (good : correction_of s ≡ Some f) where
+      at_field : corrected d i e s ≡ corrected_at (Some f) d i e s
+      at_field = by_field ∙ ap (λ (o : Option Field). corrected_at o d i e s) good
 
       pub is-outside : (SFits w64 (delay_after f d s) → ⊥) → corrected d i e s ≡ (6, s)
       is-outside n = at_field ∙ rw (not-signed (delay_after f d s) n)
@@ -91,11 +90,11 @@ module _ (d : ℤ) (i e : ℕ) (s : List ℕ) where
       pub is-done : SFits w64 (delay_after f d s) → corrected d i e s ≡ (0, with_parts f (delay_after f d s) (path_after f i e s) s)
       is-done h = at_field ∙ rw (fits_signed (delay_after f d s) h)
 
-    pub is-absent : correction_of s ≡ Absent → corrected d i e s ≡ (12, s)
-    is-absent a = by_field ∙ ap (λ (o : Occurrence). corrected_at o d i e s) a
+    pub is-absent : correction_of s ≡ None → corrected d i e s ≡ (12, s)
+    is-absent a = by_field ∙ ap (λ (o : Option Field). corrected_at o d i e s) a
 
   -- what a call that is not refused says
-  accepted-at : (f : Field) → SFits w64 (delay_after f d s) → correction_of s ≡ At f → either_refusal s ≡ 0 → Correctable d s
+  accepted-at : (f : Field) → SFits w64 (delay_after f d s) → correction_of s ≡ Some f → either_refusal s ≡ 0 → Correctable d s
   accepted-at f h g a = record { sound = (either-sound s).0 a; field = f; good = g; fits = h }
 
   pub accepted : (corrected d i e s).0 ≡ 0 → Correctable d s
@@ -105,12 +104,12 @@ module _ (d : ℤ) (i e : ℕ) (s : List ℕ) where
       (λ q. at (correction_of s) refl (eqb-true _ _ q))
       (λ q z. absurd (eqb-false _ _ q z))
     where
-      at : (o : Occurrence) → correction_of s ≡ o → either_refusal s ≡ 0 → (corrected_at o d i e s).0 ≡ 0 → Correctable d s
-      at (At f) g a =
+      at : (o : Option Field) → correction_of s ≡ o → either_refusal s ≡ 0 → (corrected_at o d i e s).0 ≡ 0 → Correctable d s
+      at (Some f) g a =
           by-test (λ (w : ℕ × List ℕ). w.0 ≡ 0 → Correctable d s) (is_signed64 (delay_after f d s))
           (λ q z. accepted-at f (signed-fits (delay_after f d s) q) g a)
           (λ q z. absurd (omega arith))
-      at Absent g a = λ z. absurd (omega arith)
+      at None g a = λ z. absurd (omega arith)
 
   pub unchanged : ((corrected d i e s).0 ≡ 0 → ⊥) → (corrected d i e s).1 ≡ s
   unfolding corrected
@@ -119,15 +118,15 @@ module _ (d : ℤ) (i e : ℕ) (s : List ℕ) where
       Left : ℕ × List ℕ → Type 0
       Left w = (w.0 ≡ 0 → ⊥) → w.1 ≡ s
 
-      at : (o : Occurrence) → Left (corrected_at o d i e s)
-      at (At f) = by-test Left (is_signed64 (delay_after f d s)) (λ q n. absurd (n refl)) (λ q n. refl)
-      at Absent = λ n. refl
+      at : (o : Option Field) → Left (corrected_at o d i e s)
+      at (Some f) = by-test Left (is_signed64 (delay_after f d s)) (λ q n. absurd (n refl)) (λ q n. refl)
+      at None = λ n. refl
 
-  pub done : (f : Field) → correction_of s ≡ At f → (corrected d i e s).0 ≡ 0
+  pub done : (f : Field) → correction_of s ≡ Some f → (corrected d i e s).0 ≡ 0
       → SFits w64 (delay_after f d s) × (corrected d i e s ≡ (0, with_parts f (delay_after f d s) (path_after f i e s) s))
   done f g z =
       let a = accepted z in
-      let same : At a.field ≡ At f = sym a.good ∙ g in
+      let same : Some a.field ≡ Some f = sym a.good ∙ g in
       let w : a.field ≡ f = cc in
       let h : SFits w64 (delay_after f d s) = rw w at a.fits in
       (h, is-done ((either-sound s).1 a.sound) f g h)

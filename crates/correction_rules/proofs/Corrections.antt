@@ -10,7 +10,7 @@ use mir.Facts.{to_z-of_z, Fits-of_z}
 use Rattle.octets.specs.Number.{put_at}
 use Rattle.header.proofs.Starts.{header-same}
 use Rattle.chain.specs.declared.cursor.Field.{Field}
-use Rattle.chain.specs.declared.find.Occurrence.TheVariants.{At}
+use Rattle.std.specs.Prelude.{Some}
 use Rattle.chain.proofs.Edits.{data-edited}
 use Rattle.field_role.specs.Correction.{complement_place}
 use Rattle.correction_rules.specs.Sum.{word_sum}
@@ -27,7 +27,7 @@ keeps a b = omega arith
 only_one : (a b k j : ℕ) → k ≤ 65534 → j ≤ 65534 → (b + k) % 65535 ≡ a % 65535 → (b + j) % 65535 ≡ a % 65535 → k ≡ j
 only_one a b k j hk hj e q = omega arith
 
-module _ (s : List ℕ) (f : Field) (good : correction_of s ≡ At f) (z : ℤ) (path : ℕ) where
+module _ (s : List ℕ) (f : Field) (good : correction_of s ≡ Some f) (z : ℤ) (path : ℕ) where
   due-small : complement_for f z path s ≤ 65534
   due-small = omega arith
 

@@ -13,7 +13,7 @@ use Rattle.octets.proofs.Numbers.{num-lt}
 use Rattle.octets.proofs.Tests.{by-outcome}
 use Rattle.chain.specs.Field.{ChainKept}
 use Rattle.chain.specs.declared.cursor.Field.{Field}
-use Rattle.chain.specs.declared.find.Occurrence.TheVariants.{At, Absent}
+use Rattle.std.specs.Prelude.{Some, None}
 use Rattle.chain.proofs.Datagrams.{either-sound}
 use Rattle.field_role.specs.Correction.{path_place}
 use Rattle.correction_rules.specs.Sum.{word_sum}
@@ -30,7 +30,7 @@ use Rattle.correction_rules.proofs.Corrections.{parts-kept, delay-is, path-is, s
 shift : (a b c : ℕ) → b % 65535 ≡ a % 65535 → (b + c) % 65535 ≡ (a + c) % 65535
 shift a b c e = omega arith
 
-parts_again : (s : List ℕ) (f : Field) → correction_of s ≡ At f → (z₁ z : ℤ) (path₁ path : ℕ) → with_parts f z path (with_parts f z₁ path₁ s) ≡ with_parts f z path s
+parts_again : (s : List ℕ) (f : Field) → correction_of s ≡ Some f → (z₁ z : ℤ) (path₁ path : ℕ) → with_parts f z path (with_parts f z₁ path₁ s) ≡ with_parts f z path s
 parts_again s f good z₁ z path₁ path =
     let t = with_parts f z₁ path₁ s in
     let k₁ = complement_for f z₁ path₁ s in
@@ -52,7 +52,7 @@ two-add-up d₁ d₂ i₁ e₁ i₂ e₂ s t u a b =
     let z₁ = delay_after f d₁ s in
     let path₁ = path_after f i₁ e₁ s in
     let made : t ≡ with_parts f z₁ path₁ s = ap second (sym a ∙ one.1) in
-    let good : correction_of t ≡ At f = ap correction_of made ∙ (parts-kept s f c.good z₁ path₁).found in
+    let good : correction_of t ≡ Some f = ap correction_of made ∙ (parts-kept s f c.good z₁ path₁).found in
     let two = done d₂ i₂ e₂ t f good (ap first b) in
     let delay : delay_after f d₂ t ≡ delay_after f (d₁ +ℤ d₂) s =
     ap (λ (x : ℤ). x +ℤ d₂) (ap (delay_of f) made ∙ delay-is s f c.good z₁ path₁ one.0) ∙ +ℤ_assoc (delay_of f s) d₁ d₂ in
@@ -78,7 +78,7 @@ two-add-up d₁ d₂ i₁ e₁ i₂ e₂ s t u a b =
 chain-none : (f : Field) (s : List ℕ) → ChainKept f s s
 chain-none f s = record { fields = refl; others = λ g m n. refl; refused = λ w. refl; either = refl }
 
-kept-none : (f : Field) (s : List ℕ) → correction_of s ≡ At f → Kept f s s
+kept-none : (f : Field) (s : List ℕ) → correction_of s ≡ Some f → Kept f s s
 kept-none f s good = record {
   long = refl;
   before = λ i h. refl;
@@ -116,13 +116,13 @@ record Added (f : Field) (s t : List ℕ) (delay : ℤ) (ports : ℕ) : Type 0 w
   delayed : delay_of f t ≡ delay_of f s +ℤ delay
   path : path_of f t ≡ (path_of f s + ports) % 2 ^ 16
 
-nothing-added : (f : Field) (s : List ℕ) → path_of f s < 2 ^ 16 → correction_of s ≡ At f → Added f s s (pos 0) 0
+nothing-added : (f : Field) (s : List ℕ) → path_of f s < 2 ^ 16 → correction_of s ≡ Some f → Added f s s (pos 0) 0
 nothing-added f s h good = record { kept = kept-none f s good; delayed = sym (+ℤ_idr (delay_of f s)); path = omega arith }
 
 group : (a i e : ℕ) → (a + i + e) % 2 ^ 16 ≡ (a + (i + e)) % 2 ^ 16
 group a i e = omega arith
 
-one-added : (p : Passage) (s : List ℕ) (f : Field) → path_of f s < 2 ^ 16 → correction_of s ≡ At f
+one-added : (p : Passage) (s : List ℕ) (f : Field) → path_of f s < 2 ^ 16 → correction_of s ≡ Some f
     → Added f s (passed p s).1 (cond (eqb (passed p s).0 0) p.delay (pos 0)) (cond (eqb (passed p s).0 0) (p.ingress + p.egress) 0)
 one-added p s f h good =
     by-outcome (eqb (passed p s).0 0)
@@ -135,7 +135,7 @@ one-added p s f h good =
 added_then : (a b c d e : ℕ) → b ≡ (a + c) % 2 ^ 16 → e ≡ (b + d) % 2 ^ 16 → e ≡ (a + (c + d)) % 2 ^ 16
 added_then a b c d e p q = omega arith
 
-all-added : (ps : List Passage) (s : List ℕ) (f : Field) → path_of f s < 2 ^ 16 → correction_of s ≡ At f → Added f s (through ps s) (added_delay ps s) (added_ports ps s)
+all-added : (ps : List Passage) (s : List ℕ) (f : Field) → path_of f s < 2 ^ 16 → correction_of s ≡ Some f → Added f s (through ps s) (added_delay ps s) (added_ports ps s)
 unfolding through added_delay added_ports
 all-added [] s f h good = nothing-added f s h good
 all-added (p ∷ ps) s f h good =
@@ -155,7 +155,7 @@ any-passages ps s f b good =
     record { kept = a.kept; delayed = a.delayed; path = a.path }
 
 -- a datagram without a good field is left as it is
-pub through-none : (ps : List Passage) (s : List ℕ) → correction_of s ≡ Absent → through ps s ≡ s
+pub through-none : (ps : List Passage) (s : List ℕ) → correction_of s ≡ None → through ps s ≡ s
 unfolding through
 through-none [] s none = refl
 through-none (p ∷ ps) s none =

@@ -1,5 +1,5 @@
 -- What holds of the switch call, W209-8 to W209-16, of any octets, delays and ports.
-use Rattle.std.specs.Prelude.{◌≡◌, List, ◌↔◌, ◌⊎◌, ℕ, ◌+◌, ◌%◌, ◌^◌, ◌<◌, ◌≤◌, ℤ, ◌+ℤ◌, length, get_or}
+use Rattle.std.specs.Prelude.{◌≡◌, List, ◌↔◌, ◌⊎◌, ℕ, ◌+◌, ◌%◌, ◌^◌, ◌<◌, ◌≤◌, ℤ, ◌+ℤ◌, length, get_or, Some, None}
 use Rattle.std.specs.Int.{w64}
 use Rattle.std.proofs.Common.{SFits}
 use Rattle.octets.specs.Number.{Octets, put_at}
@@ -8,7 +8,6 @@ use Rattle.header.specs.declared.edition.Edition.{Edition}
 use Rattle.chain.specs.Chain.{sound_refusal, either_refusal}
 use Rattle.chain.specs.Field.{ChainKept}
 use Rattle.chain.specs.declared.cursor.Field.{Field}
-use Rattle.chain.specs.declared.find.Occurrence.TheVariants.{At, Absent}
 use Rattle.field_role.specs.Correction.{delay_place, complement_place}
 use Rattle.correction_rules.specs.Sum.{word_sum}
 use Rattle.correction_rules.specs.Correct.{correction_of, delay_of, path_of, complement_of, corrected}
@@ -20,7 +19,7 @@ use Rattle.correction_rules.specs.Passage.{Passage, through, added_delay, added_
 pub record Correctable (delay : ℤ) (s : List ℕ) : Type 0 where
   pub sound : (sound_refusal s 3 ≡ 0) ⊎ (sound_refusal s 4 ≡ 0)
   pub field : Field
-  pub good : correction_of s ≡ At field
+  pub good : correction_of s ≡ Some field
   pub fits : SFits w64 (delay_of field s +ℤ delay)
 
 -- W209-8 to W209-10: accepted exactly then
@@ -30,8 +29,8 @@ CorrectedExactly = (delay : ℤ) (ingress egress : ℕ) (s : List ℕ) → (corr
 -- the refusals in their order; each leaves the datagram, W209-14
 pub record RefusedInOrder (delay : ℤ) (ingress egress : ℕ) (s : List ℕ) : Type 0 where
   pub unsound : (either_refusal s ≡ 0 → ⊥) → corrected delay ingress egress s ≡ (either_refusal s, s)
-  pub no_field : either_refusal s ≡ 0 → correction_of s ≡ Absent → corrected delay ingress egress s ≡ (12, s)
-  pub outside : (f : Field) → either_refusal s ≡ 0 → correction_of s ≡ At f → (SFits w64 (delay_of f s +ℤ delay) → ⊥)
+  pub no_field : either_refusal s ≡ 0 → correction_of s ≡ None → corrected delay ingress egress s ≡ (12, s)
+  pub outside : (f : Field) → either_refusal s ≡ 0 → correction_of s ≡ Some f → (SFits w64 (delay_of f s +ℤ delay) → ⊥)
       → corrected delay ingress egress s ≡ (6, s)
   pub unchanged : ((corrected delay ingress egress s).0 ≡ 0 → ⊥) → (corrected delay ingress egress s).1 ≡ s
 
@@ -52,7 +51,7 @@ pub record Kept (f : Field) (s t : List ℕ) : Type 0 where
   -- W209-15
   pub header : (e : Edition) → header_of e t ≡ header_of e s
   pub chain : ChainKept f s t
-  pub found : correction_of t ≡ At f
+  pub found : correction_of t ≡ Some f
 
 -- what a switch call that is not refused does
 pub record Corrected (delay : ℤ) (ingress egress : ℕ) (f : Field) (s t : List ℕ) : Type 0 where
@@ -65,7 +64,7 @@ pub record Corrected (delay : ℤ) (ingress egress : ℕ) (f : Field) (s t : Lis
   pub only : (k : ℕ) → k ≤ 65534 → word_sum (put_at t (complement_place f) 2 k) % 65535 ≡ word_sum s % 65535 → k ≡ complement_of f t
 
 abbrev pub SwitchCall : Type 0
-SwitchCall = (delay : ℤ) (ingress egress : ℕ) (s : List ℕ) (f : Field) → (corrected delay ingress egress s).0 ≡ 0 → correction_of s ≡ At f
+SwitchCall = (delay : ℤ) (ingress egress : ℕ) (s : List ℕ) (f : Field) → (corrected delay ingress egress s).0 ≡ 0 → correction_of s ≡ Some f
     → Corrected delay ingress egress f s (corrected delay ingress egress s).1
 
 -- W209-16: two after one another are one with the sums
@@ -81,4 +80,4 @@ pub record Carried (ps : List Passage) (f : Field) (s : List ℕ) : Type 0 where
   pub path : path_of f (through ps s) ≡ (path_of f s + added_ports ps s) % 2 ^ 16
 
 abbrev pub AnyPassages : Type 0
-AnyPassages = (ps : List Passage) (s : List ℕ) (f : Field) → Octets s → correction_of s ≡ At f → Carried ps f s
+AnyPassages = (ps : List Passage) (s : List ℕ) (f : Field) → Octets s → correction_of s ≡ Some f → Carried ps f s

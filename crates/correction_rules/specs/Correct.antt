@@ -1,22 +1,20 @@
 -- The switch call, W209-8 to W209-14: what it returns and what it leaves of a datagram.
-use Rattle.std.specs.Prelude.{Bool, cond, List, ℕ, ◌+◌, ◌-◌, ◌%◌, ◌^◌, eqb, ltb, ℤ, pos, negsuc, ◌+ℤ◌}
+use Rattle.std.specs.Prelude.{Bool, cond, List, ℕ, ◌+◌, ◌-◌, ◌%◌, ◌^◌, eqb, ltb, ℤ, pos, negsuc, ◌+ℤ◌, Option, Some, None}
 use Rattle.std.specs.Int.{w64}
 use Rattle.std.proofs.Common.{to_z, of_z}
 use Rattle.octets.specs.Number.{num, put_at}
 use Rattle.chain.specs.Chain.{either_refusal}
 use Rattle.chain.specs.Field.{fields_of, first_of}
 use Rattle.chain.specs.declared.cursor.Field.{Field}
-use Rattle.chain.specs.declared.find.Occurrence.{Occurrence}
-use Rattle.chain.specs.declared.find.Occurrence.TheVariants.{At, Absent}
 use Rattle.field_role.specs.Correction.{good_correction, delay_place, path_place, complement_place}
 use Rattle.correction_rules.specs.Sum.{word_sum}
 
 -- W209-1, W209-9: the good Correction field of a datagram: the first of its type, if its length is right
-abbrev pub good_only : Occurrence → Occurrence
-good_only (At f) = cond (good_correction f.size) (At f) Absent
-good_only Absent = Absent
+abbrev pub good_only : Option Field → Option Field
+good_only (Some f) = cond (good_correction f.size) (Some f) None
+good_only None = None
 
-unfoldable pub correction_of : List ℕ → Occurrence
+unfoldable pub correction_of : List ℕ → Option Field
 correction_of s = good_only (first_of 0xF506 (fields_of s))
 
 -- W209-1: what it holds
@@ -54,10 +52,10 @@ abbrev pub path_after : Field → (ingress egress : ℕ) → List ℕ → ℕ
 path_after f ingress egress s = (path_of f s + ingress + egress) % 2 ^ 16
 
 -- by the good field, or that there is none: W209-9, then W209-10
-abbrev pub corrected_at : Occurrence → (delay : ℤ) (ingress egress : ℕ) → List ℕ → ℕ × List ℕ
-corrected_at (At f) delay ingress egress s =
+abbrev pub corrected_at : Option Field → (delay : ℤ) (ingress egress : ℕ) → List ℕ → ℕ × List ℕ
+corrected_at (Some f) delay ingress egress s =
     cond (is_signed64 (delay_after f delay s)) (0, with_parts f (delay_after f delay s) (path_after f ingress egress s) s) (6, s)
-corrected_at Absent delay ingress egress s = (12, s)
+corrected_at None delay ingress egress s = (12, s)
 
 -- the refusal number and the datagram; W209-8 comes first
 unfoldable pub corrected : (delay : ℤ) (ingress egress : ℕ) → List ℕ → ℕ × List ℕ

@@ -1,8 +1,13 @@
 -- Opening, a report and a response on the place that numbers stand for, by tests of the numbers. Assumes nothing.
 use mathlib.Core.Path.{◌≡◌, refl, sym, ap, ◌∙◌}
-use mathlib.Core.Bool.{Bool, true, false, cond, not, ◌||◌, ◌&&◌}
+use mathlib.Core.Bool.{Bool, true, false, cond, not, ◌||◌, ◌&&◌, true≢false}
 use mathlib.Core.List.{List}
 use Prim.Native.Nat.{ℕ}
+use Rattle.std.specs.Prelude.{Option, Some, None, Result, Ok, Err}
+use Rattle.refusal.specs.Refusal.{refusal_number}
+use Rattle.refusal.specs.declared.Refusal.{Refusal}
+use Rattle.exchange.specs.Response.{responded}
+use Rattle.exchange.specs.declared.response.Response as code
 use lib.Dec.{eqb}
 use lib.ListN.{replicate}
 use borrow.Author.Tests.{ne_eqb, eq-eqb}
@@ -11,14 +16,14 @@ use Rattle.state.specs.Rules.{plain_reply}
 use Rattle.state.specs.Plain.{opened, newly_opened, reported, refuse_at, place_do, Outstanding, Place, received, reply_of}
 use Rattle.state.specs.Numbers.{no_request, none_saved, count_taken, place_in, request_in, opened_in}
 use Rattle.state.specs.Change.{change, Leaves}
-use Rattle.state.specs.declared.event.Event.TheVariants.{Sent, Receive}
+use Rattle.state.specs.Event.{Sent, Receive}
 use Rattle.state.specs.declared.head.Head.{Head}
 use Rattle.state.specs.declared.head.Filling.TheVariants.{Clear}
 use Rattle.state.proofs.Flags.{count-first}
 use Rattle.state.proofs.Ranges.{edition-back}
-use Rattle.exchange.specs.declared.response.Response.{Response}
-use Rattle.state.specs.declared.event.Reply.{Reply}
-use Rattle.state.proofs.Changes.{on-request}
+use Rattle.exchange.specs.Response.{Response}
+use Rattle.state.specs.Reply.{Reply}
+use Rattle.state.proofs.Changes.{by_place, on-request, refusal-number}
 
 -- the numbers of an association where so many octets were taken, and all else is as after opening
 abbrev opened_head : (edition timescale c taken : ℕ) → Head
@@ -73,3 +78,38 @@ module _ (r : Response) (h : Head) (datagram f : List ℕ) where
   asked timed is_open sound =
       rw (ne_eqb _ _ is_open, ne_eqb _ _ timed, eq-eqb _ _ sound)
       (on-request (request_in h) (eqb h.outstanding 0) (λ k. not (eqb r.client.0 k.client)) (refuse_at 9 (opened (opened_in h f))) rest)
+
+-- what was read, or why nothing was, with its T4
+pub responded-t4 : (w : Result code.Response Refusal) (t4 : ℕ) → (responded w t4).t4 ≡ t4
+responded-t4 (Ok r) t4 = refl
+responded-t4 (Err e) t4 = refl
+
+module _ (w : Result code.Response Refusal) (t4 : ℕ) (h : Head) (datagram f : List ℕ) where
+  -- 6 comes first, then 7
+  pub untimed : t4 ≡ 0 → place_do (Receive (responded w t4)) datagram (place_in h f) ≡ refuse_at 6 (place_in h f)
+  unfolding place_do
+  untimed z = by_place (λ (p : Place). place_do (Receive (responded w t4)) datagram p ≡ refuse_at 6 p) h f (rw (responded-t4 w t4, eq-eqb _ _ z)) (rw (responded-t4 w t4, eq-eqb _ _ z))
+
+  pub not-open : (t4 ≡ 0 → ⊥) → h.state ≡ 0 → place_do (Receive (responded w t4)) datagram (place_in h f) ≡ refuse_at 7 (place_in h f)
+  unfolding place_do
+  not-open timed z = rw (eq-eqb _ _ z, responded-t4 w t4, ne_eqb _ _ timed)
+
+-- then the refusal of the datagram
+pub unread : (e : Refusal) (t4 : ℕ) (h : Head) (datagram f : List ℕ) → (t4 ≡ 0 → ⊥) → (h.state ≡ 0 → ⊥)
+    → place_do (Receive (responded (Err e) t4)) datagram (place_in h f) ≡ refuse_at (refusal_number e) (place_in h f)
+unfolding place_do
+unread e t4 h datagram f timed is_open = rw (ne_eqb _ _ is_open, ne_eqb _ _ timed, refusal-number e)
+
+-- whether a chunk is taken, by where its data start
+start_or : Option ℕ → ℕ
+start_or (Some x) = x
+start_or None = 0
+
+is_some : Option ℕ → Bool
+is_some (Some x) = true
+is_some None = false
+
+pub started : (b : Bool) {x y : ℕ} → Some x ≡ cond b (Some y) None → (b ≡ true) × (x ≡ y)
+unfolding start_or is_some
+started true e = (refl, ap start_or e)
+started false e = absurd (true≢false (ap is_some e))

@@ -3,7 +3,6 @@
 use mathlib.Core.Path.{◌≡◌, refl, sym, ap, ◌∙◌}
 use mathlib.Core.Bool.{Bool, true, false, cond}
 use mathlib.Core.List.{List, [], ◌∷◌, ◌++◌}
-use mathlib.Core.Option.{Option, none, some}
 use Prim.Native.Nat.{ℕ, ◌+◌, ◌≤◌}
 use native.Mathlib.Omega.{arith}
 use lib.Dec.{eqb}
@@ -17,17 +16,15 @@ use Rattle.chain.specs.Chain.{sound_refusal}
 use Rattle.chain.specs.Field.{fields_of, fields_in, AllInside, first_of}
 use Rattle.chain.specs.Content.{Content, contents_of}
 use Rattle.chain.specs.declared.cursor.Field.{Field}
-use Rattle.chain.specs.declared.find.Occurrence.{Occurrence}
-use Rattle.chain.specs.declared.find.Occurrence.TheVariants.{At, Absent}
+use Rattle.std.specs.Prelude.{Option, Some, None}
 use Rattle.chain.proofs.Fields.{fields-inside}
-use Rattle.exchange.specs.Response.{with_chunk, response_of}
-use Rattle.exchange.specs.declared.response.Response.{Response}
+use Rattle.exchange.specs.Response.{with_chunk, response_of, Response}
 use Rattle.exchange.proofs.Responses.{response-accepted}
 
 -- the data of the first field of a type
 unfoldable pub first_data : ℕ → List Content → Option (List ℕ)
-first_data kind [] = none
-first_data kind (c ∷ cs) = cond (eqb c.kind kind) (some c.«data») (first_data kind cs)
+first_data kind [] = None
+first_data kind (c ∷ cs) = cond (eqb c.kind kind) (Some c.«data») (first_data kind cs)
 
 -- a field of another type changes nothing of it
 pub first-skips : (kind : ℕ) (before : List Content) (c : Content) (after : List Content) → eqb c.kind kind ≡ false
@@ -35,12 +32,12 @@ pub first-skips : (kind : ℕ) (before : List Content) (c : Content) (after : Li
 unfolding first_data
 first-skips kind [] c after other = rw other
 first-skips kind (b ∷ before) c after other =
-    ap (cond (eqb b.kind kind) (some b.«data»)) (first-skips kind before c after other)
+    ap (cond (eqb b.kind kind) (Some b.«data»)) (first-skips kind before c after other)
 
 -- an occurrence in s, and its data
-data Holds (s : List ℕ) : Occurrence → Option (List ℕ) → Type 0 where
-  absent : Holds s Absent none
-  present : (f : Field) → f.start + f.size ≤ length s → Holds s (At f) (some (take f.size (drop f.start s)))
+data Holds (s : List ℕ) : Option Field → Option (List ℕ) → Type 0 where
+  absent : Holds s None None
+  present : (f : Field) → f.start + f.size ≤ length s → Holds s (Some f) (Some (take f.size (drop f.start s)))
 
 holds : (s : List ℕ) (kind : ℕ) (fs : List Field) → AllInside s fs → Holds s (first_of kind fs) (first_data kind (contents_of s fs))
 unfolding first_of first_data contents_of
@@ -48,7 +45,7 @@ holds s kind [] inside = absent
 holds s kind (f ∷ fs) inside = go (holds s kind fs inside.1) (eqb f.kind kind)
   where
     go : Holds s (first_of kind fs) (first_data kind (contents_of s fs)) → (b : Bool)
-        → Holds s (cond b (At f) (first_of kind fs)) (cond b (some (take f.size (drop f.start s))) (first_data kind (contents_of s fs)))
+        → Holds s (cond b (Some f) (first_of kind fs)) (cond b (Some (take f.size (drop f.start s))) (first_data kind (contents_of s fs)))
     go later true = present f inside.0
     go later false = later
 
@@ -78,7 +75,7 @@ pub record Alike (r : Response) (s : List ℕ) (q : Response) (t : List ℕ) : T
   pub chunk : take r.size (drop r.start s) ≡ take r.size (drop q.start t)
 
 module _ (s t : List ℕ) (h : Header) (t4 : ℕ) where
-  chunk-alike : {o u : Occurrence} {d d' : Option (List ℕ)} → Holds s o d → Holds t u d' → d ≡ d' → Alike (with_chunk o h t4) s (with_chunk u h t4) t
+  chunk-alike : {o u : Option Field} {d d' : Option (List ℕ)} → Holds s o d → Holds t u d' → d ≡ d' → Alike (with_chunk o h t4) s (with_chunk u h t4) t
   chunk-alike absent absent e = record { same = refl; inside = omega arith; inside_too = omega arith; chunk = refl }
   chunk-alike absent (present g j) e = let z : ◌≡◌ {A = ℕ} 0 1 = cc in absurd (omega arith)
   chunk-alike (present f i) absent e = let z : ◌≡◌ {A = ℕ} 0 1 = cc in absurd (omega arith)
@@ -88,7 +85,7 @@ module _ (s t : List ℕ) (h : Header) (t4 : ℕ) where
       let long-too = length-take-le g.size (drop g.start t) (rw length-drop (omega arith)) in
       let size : g.size ≡ f.size = sym long-too ∙ ap length (sym octets) ∙ long in
       record {
-        same = ap (λ (n : ℕ). with_chunk (At (record { kind = g.kind; start = g.start; size = n })) h t4) size;
+        same = ap (λ (n : ℕ). with_chunk (Some (record { kind = g.kind; start = g.start; size = n })) h t4) size;
         inside = i;
         inside_too = omega arith;
         chunk = octets ∙ ap (λ (n : ℕ). take n (drop g.start t)) size;

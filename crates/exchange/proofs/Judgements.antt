@@ -1,13 +1,15 @@
--- Judgement 5 is given exactly where none of 1 to 4 applies and one of the four differences is half an era. Assumes nothing.
+-- Judgement 5 is given exactly where none of 1 to 4 applies and one of the four differences is half an era. A response that can be used has a
+-- measurement. Assumes nothing.
 use mathlib.Core.Path.{◌≡◌, refl, sym}
 use mathlib.Core.Bool.{Bool, true, false, cond, not, ◌&&◌, ◌||◌, false≢true}
 use Prim.Native.Nat.{ℕ}
 use native.Mathlib.Omega.{arith}
 use borrow.Author.Tests.{eqb-true, eqb-false, eq-eqb, ne_eqb, ltb-false, le-ltb, not-false}
 use lib.Dec.{eqb, ltb}
+use Rattle.measure.specs.Measure.{measurement}
 use Rattle.exchange.specs.Claim.{HalfEraFirst, HalfEraJudged}
 use Rattle.exchange.specs.Judging.{judged}
-use Rattle.exchange.specs.declared.response.Response.{Response}
+use Rattle.exchange.specs.Response.{Response}
 use Rattle.exchange.specs.declared.judging.Times.{Times}
 
 -- an earlier reason, of another number, does not apply
@@ -65,3 +67,15 @@ module _ (r : Response) (timescale previous : ℕ) (t : Times) where
 
 pub half-era-judged : HalfEraJudged
 half-era-judged r timescale previous t = (only r timescale previous t, all r timescale previous t)
+
+-- no earlier reason applies
+none_applies : (b : Bool) (n x : ℕ) → cond b n x ≡ 0 → (n ≡ 0 → ⊥) → x ≡ 0
+none_applies true n x e f = absurd (f e)
+none_applies false n x e f = e
+
+pub usable-measured : (r : Response) (timescale previous : ℕ) (t : Times) → judged r timescale previous t ≡ 0 → (measurement t.t1 t.t2 t.t3 t.t4).judgement ≡ 0
+usable-measured r timescale previous t e =
+    let one = none_applies (eqb r.leap 3) _ _ e (λ q. omega arith) in
+    let two = none_applies (ltb r.stratum 1 || ltb 15 r.stratum) _ _ one (λ q. omega arith) in
+    let three = none_applies (not (eqb r.timescale timescale) || (r.interleaved && not (eqb previous timescale))) _ _ two (λ q. omega arith) in
+    none_applies (eqb t.t1 0 || eqb t.t2 0 || eqb t.t3 0 || eqb t.t4 0) _ _ three (λ q. omega arith)

@@ -2,7 +2,7 @@
 use Rattle.std.specs.Prelude.{◌≡◌, true, ◌↔◌, ℕ, ◌≤◌}
 use Rattle.measure.specs.Measure.{measurement}
 use Rattle.exchange.specs.Judging.{judged}
-use Rattle.exchange.specs.declared.response.Response.{Response}
+use Rattle.exchange.specs.Response.{Response}
 use Rattle.exchange.specs.declared.judging.Times.{Times}
 
 -- none of the reasons C-23 to C-26 applies, and one of the four differences is half an era, W206-3

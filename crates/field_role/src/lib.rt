@@ -5,6 +5,7 @@ ghost use Rattle.std.specs.Prelude.{◌≡◌};
 ghost use Rattle.field_role.specs.Role.{is_answered, none_met, met_after, role_with, request_role};
 
 use chain::cursor::Field;
+use chain::kind::{FILTER_REQUEST, INFORMATION, NAME};
 use octets::number;
 
 // Which of the types that a responder answers were met already.
@@ -29,7 +30,7 @@ pub enum Role {
 pub fn is_answered(kind: u16) -> bool
     ensures { result ≡ is_answered kind }
 {
-    (kind == 0xF503) | (kind == 0xF505) | (kind == 0xF5FF)
+    matches!(kind, FILTER_REQUEST | INFORMATION | NAME)
 }
 
 pub fn none_met() -> Met
@@ -47,56 +48,32 @@ pub fn met_after(met: Met, kind: u16) -> Met
     ensures { result ≡ met_after met kind }
 {
     Met {
-        request: met.request | (kind == 0xF503),
-        information: met.information | (kind == 0xF505),
-        name: met.name | (kind == 0xF5FF),
+        request: met.request | (kind == FILTER_REQUEST),
+        information: met.information | (kind == INFORMATION),
+        name: met.name | (kind == NAME),
     }
 }
 
 // What a field of a datagram asks, given what was met before it.
+#[tactic(auto, unfolding(crate::specs::Role::role_given))]
 pub fn role_of(datagram: &[u8], field: Field, met: Met) -> Role
     ensures { result ≡ role_with datagram.now field met }
 {
-    let kind = field.kind;
-    if kind == 0xF503 {
-        if met.request {
-            return Role::Unknown;
-        }
-        return request(number::get16(datagram, field.start), field.size);
+    match field.kind {
+        FILTER_REQUEST if !met.request => request(number::get(datagram, field.start), field.size),
+        INFORMATION if !met.information && field.size == 4 => Role::Information,
+        NAME if !met.name => Role::DraftName,
+        _ => Role::Unknown,
     }
-    if kind == 0xF505 {
-        if met.information {
-            return Role::Unknown;
-        }
-        if field.size == 4 {
-            return Role::Information;
-        }
-        return Role::Unknown;
-    }
-    if kind == 0xF5FF {
-        if met.name {
-            return Role::Unknown;
-        }
-        return Role::DraftName;
-    }
-    Role::Unknown
 }
 
 // A filter request of n data octets at an offset, good or not.
 fn request(offset: u16, n: usize) -> Role
     ensures { result ≡ request_role offset n }
 {
-    if n % 4 != 0 {
-        return Role::Unknown;
+    if n % 4 == 0 && 4 <= n && n <= 512 && offset as usize + n <= 512 {
+        Role::FilterRequest(offset)
+    } else {
+        Role::Unknown
     }
-    if n < 4 {
-        return Role::Unknown;
-    }
-    if 512 < n {
-        return Role::Unknown;
-    }
-    if 512 < offset as usize + n {
-        return Role::Unknown;
-    }
-    Role::FilterRequest(offset)
 }

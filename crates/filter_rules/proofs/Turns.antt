@@ -1,46 +1,23 @@
 -- One turn of each loop over positions or over a filter, of octets or of words. Assumes nothing.
---     add-shifted, bit_past, bit-zero, bit-one    a position, as the code sets and tests it
---     add_step, add-end                           what is left to add, before a turn and after it
---     contains-step, contains-end                 what is left to test
---     union-step, union-end                       what is left to unite
-use mathlib.Core.Path.{◌≡◌, refl, ap, ◌∙◌}
-use mathlib.Core.Bool.{Bool, true, false, ◌&&◌}
+--     add_step, add-end         what is left to add, before a turn and after it
+--     contains-all              the test of every position
+--     union-step, union-end     what is left to unite
+use mathlib.Core.Path.{◌≡◌, refl, ap}
+use mathlib.Core.Bool.{Bool, ◌&&◌}
 use mathlib.Core.List.{List, [], ◌∷◌}
-use Prim.Native.Nat.{ℕ, zero, suc, ◌+◌, ◌*◌, ◌%◌, ◌^◌, ◌≤◌, ◌<◌, min}
-use native.Mathlib.Nat.{le_of_suc-le-suc, not-suc-le-zero, one-mul, zero-div}
+use Prim.Native.Nat.{ℕ, zero, suc, ◌+◌, ◌≤◌, ◌<◌, min}
+use native.Mathlib.Nat.{le_of_suc-le-suc, not-suc-le-zero}
 use native.Mathlib.Numerals.{add-one}
 use native.Mathlib.Omega.{arith}
-use borrow.Author.Tests.{eq-eqb}
 use lib.Bits.{bit_or}
-use lib.Dec.{eqb, lit<}
-use lib.ListN.{length, get_or, set, drop, drop_of_length-le, get_or-eq_default}
-use lib.Pow.{shl_exact}
+use lib.ListN.{length, get_or, set, drop, drop_of_length-le}
 use lib.Seq.{drop-cons}
+use Rattle.std.specs.List.{list_all}
 use Rattle.filter_rules.specs.Filter.{is_set_in, add_position_in, add_all_in, contains_all_in, union}
-use Rattle.filter_rules.proofs.Adding.{digit}
 
 -- the first of what is left
 drop-next : (l : List ℕ) (i : ℕ) → i < length l → drop i l ≡ get_or l i 0 ∷ drop (i + 1) l
 drop-next l i h = rw (add-one, drop-cons l i 0)
-
--- ---- a position: bit k of element i, which has n bits
-
--- the bit as the code shifts it into place
-pub add-shifted : (f : List ℕ) (i k n : ℕ) → k < n
-    → set f i (bit_or (get_or f i 0) (1 * 2 ^ k % 2 ^ n)) ≡ set f i (bit_or (get_or f i 0) (2 ^ k))
-add-shifted f i k n h =
-    ap (λ (m : ℕ). set f i (bit_or (get_or f i 0) m)) (shl_exact 1 k n (lit< tt) (omega arith) ∙ one-mul (2 ^ k))
-
--- past the end it is not set
-pub bit_past : (f : List ℕ) (i k : ℕ) → length f ≤ i → eqb (digit (get_or f i 0) k) 1 ≡ false
-bit_past f i k h = rw (get_or-eq_default f 0 h, zero-div)
-
--- the test that the code makes
-pub bit-zero : (x : ℕ) → x % 2 ≡ 0 → eqb (x % 2) 1 ≡ false
-bit-zero x e = rw e
-
-pub bit-one : (x : ℕ) → (x % 2 ≡ 0 → ⊥) → eqb (x % 2) 1 ≡ true
-bit-one x h = eq-eqb (x % 2) 1 (omega (arith, h))
 
 -- ---- a list of positions, in elements of any width
 
@@ -53,15 +30,11 @@ module _ (width : ℕ) (f ps : List ℕ) (i : ℕ) where
   unfolding add_all_in
   add-end h = ap (add_all_in width f) (drop_of_length-le ps h)
 
-  pub contains-step : (b : Bool) → i < length ps → is_set_in width f (get_or ps i 0) ≡ b
-      → contains_all_in width f (drop i ps) ≡ b && contains_all_in width f (drop (i + 1) ps)
-  unfolding contains_all_in
-  contains-step b h e =
-      ap (contains_all_in width f) (drop-next ps i h) ∙ ap (λ (t : Bool). t && contains_all_in width f (drop (i + 1) ps)) e
-
-  pub contains-end : length ps ≤ i → contains_all_in width f (drop i ps) ≡ true
-  unfolding contains_all_in
-  contains-end h = ap (contains_all_in width f) (drop_of_length-le ps h)
+-- the test of every position
+pub contains-all : (width : ℕ) (f ps : List ℕ) → contains_all_in width f ps ≡ list_all (is_set_in width f) ps
+unfolding contains_all_in
+contains-all width f [] = refl
+contains-all width f (p ∷ ps) = ap (λ (t : Bool). is_set_in width f p && t) (contains-all width f ps)
 
 -- ---- union
 

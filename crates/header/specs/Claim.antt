@@ -9,7 +9,7 @@ use Rattle.header.specs.Edition.{Within, interleaved_flag}
 use Rattle.header.specs.declared.edition.Edition.{Edition}
 use Rattle.header.specs.declared.edition.Edition.TheVariants.{One, Seven}
 use Rattle.header.specs.declared.Header.{Header}
-use Rattle.header.specs.declared.Reading.TheVariants.{Fields}
+use Rattle.std.specs.Prelude.{Ok}
 
 -- WHAT PASSES
 
@@ -64,12 +64,12 @@ WrittenRead = (e : Edition) (s : List ℕ) → Octets s → 48 ≤ length s → 
 -- H-12: a header that is written to a buffer of a datagram's size is not refused, and the buffer is then read as that header
 abbrev pub ReadAfterWrite : Type 0
 ReadAfterWrite = (h : Header) (out : List ℕ) → InRange h → 3 ≤ h.mode → h.mode ≤ 4 → 48 ≤ length out → length out ≤ 1280 → length out % 4 ≡ 0
-    → ((written h out).0 ≡ 0) × (reading (refusal (written h out).1 h.mode) (header_of h.edition (written h out).1) ≡ Fields h)
+    → ((written h out).0 ≡ 0) × (reading (refusal (written h out).1 h.mode) (header_of h.edition (written h out).1) ≡ Ok h)
 
 -- H-13: a request or response that was read is written as it was: not refused, the same 48 octets, and those after them kept
 abbrev pub WriteAfterRead : Type 0
 WriteAfterRead = (e : Edition) (s out : List ℕ) (wanted : ℕ) (h : Header) → Octets s → 3 ≤ wanted → wanted ≤ 4 → 48 ≤ length out
-    → reading (refusal s wanted) (header_of e s) ≡ Fields h → written h out ≡ (0, take 48 s ++ drop 48 out)
+    → reading (refusal s wanted) (header_of e s) ≡ Ok h → written h out ≡ (0, take 48 s ++ drop 48 out)
 
 -- EDITION 1
 

@@ -1,5 +1,5 @@
 -- The editions of the draft, W204-1, and what differs between them but for the header's layout.
-use Rattle.std.specs.Prelude.{Bool, cond, ◌||◌, ℕ, ◌/◌, ◌%◌, ◌≤◌, eqb, ltb}
+use Rattle.std.specs.Prelude.{Bool, Result, Ok, Err, cond, ◌||◌, ℕ, ◌/◌, ◌%◌, ◌≤◌, eqb, ltb}
 use Rattle.header.specs.declared.edition.Edition.{Edition}
 use Rattle.header.specs.declared.edition.Edition.TheVariants.{One, Seven}
 
@@ -14,6 +14,10 @@ is_edition n = eqb n 1 || eqb n 7
 -- the edition of a number. That a number which names none has 7 is ours, where an edition is asked for
 abbrev pub edition_of : ℕ → Edition
 edition_of n = cond (eqb n 1) One Seven
+
+-- W204-1, G-11: the edition that a number names, or 6
+abbrev pub named_edition : ℕ → Result Edition ℕ
+named_edition n = cond (is_edition n) (Ok (edition_of n)) (Err 6)
 
 -- W204-5: the largest that a header can hold
 abbrev pub most_stratum : Edition → ℕ

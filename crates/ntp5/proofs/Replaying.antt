@@ -1,38 +1,20 @@
--- A record's call that was made, and a place where none was. Assumes nothing.
+-- A place where a record's call was made, and one where none was. Assumes nothing.
 use mathlib.Core.Path.{◌≡◌, refl, sym, ap, ◌∙◌}
 use mathlib.Core.List.{List, []}
 use Prim.Native.Nat.{ℕ, ◌+◌, ◌≤◌}
 use native.Mathlib.Omega.{arith}
 use lib.ListN.{length, drop, length-drop}
-use Rattle.client_rules.specs.Call.{Answer}
-use Rattle.client_rules.specs.Numbers.{step_numbers}
-use Rattle.trace_rules.specs.Record.{head_length, found_in, data_in, action_call, lent_after}
+use Rattle.trace_rules.specs.Record.{head_length, found_in, data_in}
 use Rattle.trace_rules.specs.Replay.{not_made, made_by, replay_found, replay_at}
-use Rattle.trace_rules.specs.declared.Action.{Action}
 use Rattle.trace_rules.specs.declared.Record.{Record}
 use Rattle.trace_rules.specs.declared.Found.{Found}
 use Rattle.trace_rules.specs.declared.Found.TheVariants.{Call, End, Wrong}
 use Rattle.trace_rules.proofs.Listings.{at-end}
-use Rattle.c_structs.specs.Replayed.{made_numbers, replayed_numbers, replay_left}
+use Rattle.c_structs.specs.Replayed.{replayed_numbers, replay_left}
 use Rattle.c_structs.specs.declared.replayed.Replayed.{Replayed}
 
 abbrev Left : Type 0
 Left = Replayed × List ℕ × List ℕ
-
-module _ (f : Record) (d : List ℕ) (next : ℕ) (out t : List ℕ) where
-  -- as if its action were this one
-  abbrev made_as : Action → Left
-  made_as action =
-      let s = step_numbers (action_call out d f.association action) t in
-      (made_numbers f next s.0 s.0.size, lent_after out action s.0, s.1)
-
-  pub made : (action : Action) (r : Replayed) (w : Answer) (left : List ℕ) → f.action ≡ action → r ≡ made_numbers f next w w.size
-      → ◌≡◌ {A = Answer × List ℕ} (w, left) (step_numbers (action_call out d f.association action) t)
-      → ◌≡◌ {A = Left} (r, lent_after out action w, left) (replay_left (made_by f d next out t))
-  made action r w left e n m =
-      ap (λ (x : Replayed). (x, lent_after out action w, left)) n
-      ∙ ap (λ (x : Answer × List ℕ). (made_numbers f next x.0 x.0.size, lent_after out action x.0, x.1)) m
-      ∙ ap made_as (sym e)
 
 module _ (trace : List ℕ) (at : ℕ) (out t : List ℕ) where
   pub call-made : (r : Record) (w : Left) → found_in (drop at trace) ≡ Call r

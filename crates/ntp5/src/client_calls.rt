@@ -7,6 +7,7 @@ ghost use Rattle.c_structs.specs.Numbers.{written_numbers, received_numbers, ver
 use c_structs::answers;
 use c_structs::answers::{Received, Verdict, Written};
 use header::ClientCookie;
+use refusal::outcome_number;
 
 pub fn ntp5_table_words() -> usize
     ensures { result ≡ table_size }
@@ -17,19 +18,19 @@ pub fn ntp5_table_words() -> usize
 pub fn ntp5_clear(table: &mut [u64]) -> u8
     ensures { (plain_answer result [], table.new) ≡ step_numbers clear_table table.old }
 {
-    client::clear(table)
+    outcome_number(client::clear(table))
 }
 
 pub fn ntp5_open(table: &mut [u64], association: u8, edition: u8, timescale: u8, chunk: u16) -> u8
     ensures { (plain_answer result [], table.new) ≡ step_numbers (open_one association edition timescale chunk) table.old }
 {
-    client::open(table, association, edition, timescale, chunk)
+    outcome_number(client::open(table, association, edition, timescale, chunk))
 }
 
 pub fn ntp5_close(table: &mut [u64], association: u8) -> u8
     ensures { (plain_answer result [], table.new) ≡ step_numbers (close_one association) table.old }
 {
-    client::close(table, association)
+    outcome_number(client::close(table, association))
 }
 
 pub fn ntp5_poll(
@@ -51,13 +52,13 @@ pub fn ntp5_poll(
         mode,
         out,
     );
-    answers::of_polled(polled)
+    Written::from(polled)
 }
 
 pub fn ntp5_sent(table: &mut [u64], association: u8, t1: u64) -> u8
     ensures { (plain_answer result [], table.new) ≡ step_numbers (sent association t1) table.old }
 {
-    client::sent(table, association, t1)
+    outcome_number(client::sent(table, association, t1))
 }
 
 pub fn ntp5_receive(table: &mut [u64], association: u8, datagram: &[u8], t4: u64) -> Received
@@ -66,13 +67,13 @@ pub fn ntp5_receive(table: &mut [u64], association: u8, datagram: &[u8], t4: u64
     // The whole datagram, taken apart here: two exports use this one, and the compiler then hands it its address and its length, and not
     // a reference to both, on which the processor would wait.
     let received = client::receive(table, association, &datagram[0..], t4);
-    answers::of_received(received)
+    Received::from(received)
 }
 
 pub fn ntp5_loop_verdict(table: &[u64], association: u8, id: &[u8]) -> Verdict
     ensures { (verdict_numbers result, table.now) ≡ step_numbers (loop_verdict association id.now) table.now }
 {
-    answers::of_verdict(client::loop_verdict(table, association, id))
+    Verdict::from(client::loop_verdict(table, association, id))
 }
 
 pub fn ntp5_publish(table: &[u64], selected: u16, id: &[u8], out: &mut [u8]) -> Written

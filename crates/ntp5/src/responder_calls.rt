@@ -4,21 +4,21 @@ ghost use Rattle.store_rules.specs.Row.{cleared, reporting};
 ghost use Rattle.responder_rules.specs.Answer.{given, answer_named};
 ghost use Rattle.c_structs.specs.Numbers.{outcome_numbers};
 
-use c_structs::answers;
 use c_structs::answers::Written;
 use header::ServerCookie;
-use responder::Server;
+use refusal::outcome_number;
+use responder::{Given, Server};
 
 pub fn ntp5_store_clear(store: &mut [u8]) -> u8
     ensures { (result, store.new) ≡ cleared store.old }
 {
-    store::clear(store)
+    outcome_number(store::clear(store))
 }
 
 pub fn ntp5_report(store: &mut [u8], server_cookie: u64, time: u64) -> u8
     ensures { (result, store.new) ≡ reporting store.old server_cookie time }
 {
-    store::report(store, ServerCookie(server_cookie), time)
+    outcome_number(store::report(store, ServerCookie(server_cookie), time))
 }
 
 pub fn ntp5_answer(
@@ -37,18 +37,15 @@ pub fn ntp5_answer(
         ≡ answer_named edition (given request.now receive_time estimate fresh_cookie server filter.now information.now)
         store.old out.old }
 {
-    let fresh = ServerCookie(fresh_cookie);
-    let answered = responder::named::answer(
-        store,
-        edition,
+    let given = Given {
         request,
-        receive_time,
+        receive: receive_time,
         estimate,
-        fresh,
+        fresh_cookie: ServerCookie(fresh_cookie),
         server,
         filter,
         information,
-        out,
-    );
-    answers::of_answered(answered)
+    };
+    let answered = responder::named::answer(store, edition, given, out);
+    Written::from(answered)
 }

@@ -14,30 +14,21 @@ use trace_rules::{Action, Found, Record};
 fn make(table: &mut [u64], found: Record, datagram: &[u8], next: usize, out: &mut [u8]) -> Replayed
     ensures { (result, out.new, table.new) ≡ replay_left (made_by found datagram.now next out.old table.old) }
 {
-    let action = found.action;
     let association = found.association;
-    match action {
+    let (answered, length) = match found.action {
         Action::Open(edition, timescale, chunk) => {
             let refusal = ntp5_open(table, association, edition, timescale, chunk);
-            of_made(found, next, of_refusal(refusal), 0)
+            (of_refusal(refusal), 0)
         }
         Action::Poll(cookie, exponent, interleaved) => {
             let written = ntp5_poll(table, association, cookie.0, exponent, interleaved, out);
-            of_made(found, next, of_refusal(written.refusal), written.length)
+            (of_refusal(written.refusal), written.length)
         }
-        Action::Sent(t1) => {
-            let refusal = ntp5_sent(table, association, t1);
-            of_made(found, next, of_refusal(refusal), 0)
-        }
-        Action::Receive(t4) => {
-            let received = ntp5_receive(table, association, datagram, t4);
-            of_made(found, next, received, 0)
-        }
-        Action::Close => {
-            let refusal = ntp5_close(table, association);
-            of_made(found, next, of_refusal(refusal), 0)
-        }
-    }
+        Action::Sent(t1) => (of_refusal(ntp5_sent(table, association, t1)), 0),
+        Action::Receive(t4) => (ntp5_receive(table, association, datagram, t4), 0),
+        Action::Close => (of_refusal(ntp5_close(table, association)), 0),
+    };
+    of_made(found, next, answered, length)
 }
 
 // W208-13: the record at a place. A poll is lent `out` as it is.

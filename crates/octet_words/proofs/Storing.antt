@@ -1,58 +1,40 @@
 -- Words stored one after the other are octets pasted. Assumes nothing.
---     store_two, store-halves    a word stored by halves
---     turn                       a turn of a loop that stores words
---     then-rest                  after whole words the octets that are left
---     words-test                 the room test for n words
+--     stored        a word stored
+--     turn          a turn of a loop that stores words
+--     then-rest     after whole words the octets that are left
+--     read          words that were read one by one
 use mathlib.Core.Path.{◌≡◌, refl, sym, ap, ◌∙◌}
-use mathlib.Core.Bool.{Bool, true, false}
-use mathlib.Core.List.{List, [], ◌∷◌, ◌++◌}
-use Prim.Native.Nat.{ℕ, zero, suc, ◌+◌, ◌-◌, ◌*◌, ◌/◌, ◌%◌, ◌^◌, ◌<◌, ◌≤◌}
-use native.Mathlib.Nat.{div-one, zero-add, suc-add}
-use native.Mathlib.Numerals.{add-one}
+use mathlib.Core.List.{List}
+use Prim.Native.Nat.{ℕ, zero, suc, ◌+◌, ◌*◌, ◌/◌, ◌%◌, ◌^◌, ◌<◌, ◌≤◌}
+use native.Mathlib.Nat.{div-one, div-div-eq-div-mul, pow-suc}
 use native.Mathlib.Omega.{arith}
-use borrow.Author.Tests.{le-leb, lt-leb, leb-true, leb-false}
-use lib.Dec.{leb}
-use lib.ListN.{length, get_or, set, take, drop, length-drop}
-use lib.Pow.{shr-shr, mod-mod-pow, field}
-use lib.Seq.{paste, take-add, take_at, drop-drop, drop-cons, sets-eq, length-take-le, length-paste}
+use borrow.Rule.Slice.PartMut.{put_mid}
+use lib.ListN.{length, get_or, take, drop, length-drop}
+use lib.Seq.{paste, take-add, take_at, drop-drop, drop-cons, length-take-le, length-paste}
+use Rattle.std.specs.Int.{bytes_low_first}
+use Rattle.std.proofs.lemmas.List.{ext_get_or}
+use Rattle.std.proofs.lemmas.Slice.{put_mid-paste}
+use borrow.Author.Tests.{le-leb}
 use Rattle.octets.specs.Part.{copy_at}
+use Rattle.octets.proofs.Bytes.{byte_div}
 use Rattle.octets.proofs.Parts.{paste-paste}
-use Rattle.word_rules.specs.Words.{low_octets, octets_of}
-use Rattle.word_rules.proofs.Conversion.{length-low, length-octets}
+use Rattle.word_rules.specs.Words.{low_first, words_from, low_octets, octets_of}
+use Rattle.word_rules.proofs.Conversion.{length-low, length-octets, length-words, word-at}
 use Rattle.word_rules.proofs.Taking.{octets-drop, paste-taken}
 
--- ---- a word stored by halves
+-- ---- a word stored
 
-low-mod : (n w : ℕ) → low_octets n (w % 2 ^ (8 * n)) ≡ low_octets n w
+low-bytes : (i k w : ℕ) → bytes_low_first i k w ≡ low_octets k (w / 256 ^ i)
 unfolding low_octets
-low-mod zero w = refl
-low-mod (suc n) w =
-    let e : 8 * suc n ≡ 8 * n + 8 = omega arith in
-    rw (e, mod-mod-pow w (8 * n) 8, field w (8 * n) 8, low-mod n (w / 256))
+low-bytes i zero w = refl
+low-bytes i (suc k) w =
+    let e : w / 256 ^ suc i ≡ w / 256 ^ i / 256 = rw pow-suc (sym (div-div-eq-div-mul w (256 ^ i) 256)) in
+    rw (low-bytes (suc i) k w, e, byte_div i w)
 
-low-add : (m n w : ℕ) → low_octets (m + n) w ≡ low_octets m w ++ low_octets n (w / 2 ^ (8 * m))
-unfolding low_octets
-low-add zero n w = rw (zero-add, div-one)
-low-add (suc m) n w =
-    let e : 8 + 8 * m ≡ 8 * suc m = omega arith in
-    let q : w / 256 / 2 ^ (8 * m) ≡ w / 2 ^ (8 * suc m) = shr-shr w 8 (8 * m) ∙ ap (λ (k : ℕ). w / 2 ^ k) e in
-    ap (λ (k : ℕ). low_octets k w) (suc-add m n)
-    ∙ ap (λ (l : List ℕ). w % 256 ∷ l) (low-add m n (w / 256) ∙ ap (λ (v : ℕ). low_octets m (w / 256) ++ low_octets n v) q)
-
-pub store_two : (s : List ℕ) (at w : ℕ) → w < 2 ^ 16 → at + 2 ≤ length s
-    → set (set s at (w % 256)) (at + 1) (w / 256) ≡ paste s at (low_octets 2 w) 2
-unfolding low_octets
-store_two s at w h l =
-    let e : w / 256 % 256 ≡ w / 256 = omega arith in
-    rw (e, add-one) (sets-eq (w % 256 ∷ w / 256 ∷ []) s at l)
-
-pub store-halves : (s s₁ s₂ : List ℕ) (at n w : ℕ) → at + (n + n) ≤ length s
-    → s₁ ≡ paste s at (low_octets n (w % 2 ^ (8 * n))) n → s₂ ≡ paste s₁ (at + n) (low_octets n (w / 2 ^ (8 * n))) n
-    → s₂ ≡ paste s at (low_octets (n + n) w) (n + n)
-store-halves s s₁ s₂ at n w h e e' =
-    e' ∙ ap (λ (l : List ℕ). paste l (at + n) (low_octets n (w / 2 ^ (8 * n))) n) (e ∙ ap (λ (l : List ℕ). paste s at l n) (low-mod n w))
-    ∙ paste-paste s (low_octets n w) (low_octets n (w / 2 ^ (8 * n))) at n n (length-low n _) (length-low n _) h
-    ∙ ap (λ (l : List ℕ). paste s at l (n + n)) (sym (low-add n n w))
+-- a part of a slice that got the library's bytes of a word
+pub stored : (at k w : ℕ) (s ys : List ℕ) → ys ≡ bytes_low_first 0 8 w → k ≡ 8 → put_mid at k s ys ≡ paste s at (low_octets 8 w) 8
+stored at k w s ys e h =
+    put_mid-paste at k s ys (low_octets 8 w) 8 (e ∙ low-bytes 0 8 w ∙ ap (low_octets 8) (div-one w)) (sym h) (sym (length-low 8 w))
 
 -- ---- a part after a part of one list
 
@@ -98,11 +80,7 @@ then-rest s t t' source at from n h k e e' =
     e' ∙ rw (e, le-leb _ _ read, le-leb _ _ room, ← drop-drop m from source)
     (sym (paste-taken (paste s at xs m) (drop m xs) (at + m) r) ∙ paste-on s xs at m r (omega arith) (omega arith) ∙ ap (paste s at xs) q)
 
--- ---- room for n words
+-- ---- words read
 
-pub words-test : (at n l : ℕ) → at ≤ l → leb n ((l - at) / 8) ≡ leb (at + 8 * n) l
-words-test at n l h = go (leb n ((l - at) / 8)) refl
-  where
-    go : (b : Bool) → leb n ((l - at) / 8) ≡ b → b ≡ leb (at + 8 * n) l
-    go true e = let k = leb-true n ((l - at) / 8) e in sym (le-leb (at + 8 * n) l (omega arith))
-    go false e = let k = leb-false n ((l - at) / 8) e in sym (lt-leb (at + 8 * n) l (omega arith))
+pub read : (ws f : List ℕ) (n : ℕ) → length ws ≡ n → ((k : ℕ) → k < n → get_or ws k 0 ≡ low_first f (8 * k) 8) → ws ≡ words_from f 0 n
+read ws f n e h = ext_get_or 0 ws (words_from f 0 n) (e ∙ sym (length-words f 0 n)) (λ k l. let m : k < n = omega arith in h k m ∙ sym (word-at f n k m))

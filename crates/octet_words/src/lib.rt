@@ -35,36 +35,24 @@ fn has_octets(s: &[u8], at: usize, n: usize) -> bool
     }
 }
 
-// Whether there are n words from word `at` on.
-fn has_words(words: &[u64], at: usize, n: usize) -> bool
-    ensures { result ≡ has_room words.now at n }
-{
-    if n <= words.len() {
-        at <= words.len() - n
-    } else {
-        false
-    }
-}
-
 // n words from word `at` on become those of the octets of `source` from `from` on.
 pub fn take(words: &mut [u64], at: usize, source: &[u8], from: usize, n: usize)
     ensures { words.new ≡ take_words words.old at source.now from n }
 {
     if has_octets(source, from, n) {
-        if has_words(words, at, n) {
-            take_all(words, at, source, from, n);
+        if part::has_room(words, at, n) {
+            take_all(&mut words[at..at + n], &source[from..]);
         }
     }
 }
 
-fn take_all(words: &mut [u64], at: usize, source: &[u8], from: usize, n: usize)
-    requires { (at + n ≤ length words.old) × (from + 8 * n ≤ length source.now) }
-    ensures { words.new ≡ paste words.old at (words_from (drop from source.now) 0 n) n }
+// All the words become those of the source.
+fn take_all(words: &mut [u64], source: &[u8])
+    requires { 8 * length words.old ≤ length source.now }
+    ensures { words.new ≡ words_from source.now 0 (length words.old) }
 {
-    let mut i = 0;
-    while i < n {
-        words[at + i] = load(source, from + 8 * i);
-        i += 1;
+    for (i, w) in words.iter_mut().enumerate() {
+        *w = load(source, 8 * i);
     }
 }
 
@@ -73,22 +61,13 @@ pub fn put(out: &mut [u8], at: usize, words: &[u64])
     ensures { out.new ≡ overwrite out.old at (octets_of words.now) (8 * length words.now) }
 {
     if has_octets(out, at, words.len()) {
-        put_all(out, at, words);
+        for (i, w) in words.iter().enumerate() {
+            store(out, at + 8 * i, *w);
+        }
     }
 }
 
-fn put_all(out: &mut [u8], at: usize, words: &[u64])
-    requires { at + 8 * length words.now ≤ length out.old }
-    ensures { out.new ≡ paste out.old at (octets_of words.now) (8 * length words.now) }
-{
-    let mut i = 0;
-    while i < words.len() {
-        store(out, at + 8 * i, words[i]);
-        i += 1;
-    }
-}
-
-// n octets of `source` from `from` on go to `to` and on, eight at a time, and those that are left one at a time.
+// n octets of `source` from `from` on go to `to` and on, eight at a time (W210-5), and those that are left after them.
 pub fn copy(out: &mut [u8], to: usize, source: &[u8], from: usize, n: usize)
     ensures { out.new ≡ copy_by_words out.old to source.now from n }
 {
@@ -105,9 +84,6 @@ fn copy_all(out: &mut [u8], to: usize, source: &[u8], from: usize, n: usize)
 {
     let whole = n / 8;
     copy_words(out, to, source, from, whole);
-    if n % 8 == 0 {
-        return;
-    }
     part::copy(out, to + 8 * whole, source, from + 8 * whole, n % 8);
 }
 
@@ -115,10 +91,8 @@ fn copy_words(out: &mut [u8], to: usize, source: &[u8], from: usize, whole: usiz
     requires { (to + 8 * whole ≤ length out.old) × (from + 8 * whole ≤ length source.now) }
     ensures { out.new ≡ paste out.old to (drop from source.now) (8 * whole) }
 {
-    let mut i = 0;
-    while i < whole {
+    for i in 0..whole {
         store(out, to + 8 * i, load(source, from + 8 * i));
-        i += 1;
     }
 }
 
@@ -126,9 +100,5 @@ fn copy_words(out: &mut [u8], to: usize, source: &[u8], from: usize, whole: usiz
 pub fn zero(words: &mut [u64])
     ensures { words.new ≡ zeroed words.old }
 {
-    let mut i = 0;
-    while i < words.len() {
-        words[i] = 0;
-        i += 1;
-    }
+    words.fill(0);
 }

@@ -7,26 +7,59 @@ mod outputs;
 mod views;
 
 ghost use Rattle.std.specs.Prelude.{◌≡◌, IfOk};
+ghost use Rattle.queries.specs.Rows.{query_at};
 
+use print::Row;
 use std::io;
 use std::io::Write;
-use words::line::word_of;
+use words::line::{bits_at, word_of};
 use words::octet_word::octets_of;
 
-// The call of this number, that of its row from 0 on, and its result. `table` is the client's.
-pub fn run<W: Write>(
-    to: &mut W,
-    call: usize,
-    row: &[u8],
-    line: &[u8],
-    table: &[u64],
-) -> io::Result<()>
+#[derive(Clone, Copy)]
+pub enum Query {
+    Header,
+    Write,
+    Sound,
+    Add,
+    Union,
+    Weight,
+    Measure,
+    Verdict,
+    Publish,
+}
+
+impl Query {
+    // The call of the row of this number, from 0 on, if it is one of these.
+    pub fn at(row: usize) -> Option<Query>
+        ensures { result ≡ query_at row }
+    {
+        match row {
+            0 => Some(Query::Header),
+            1 => Some(Query::Write),
+            2 => Some(Query::Sound),
+            3 => Some(Query::Add),
+            4 => Some(Query::Union),
+            5 => Some(Query::Weight),
+            6 => Some(Query::Measure),
+            13 => Some(Query::Verdict),
+            14 => Some(Query::Publish),
+            _ => None,
+        }
+    }
+}
+
+// The call, and its result. `table` is the client's.
+pub fn run<W: Write>(row: Row<'_, W>, query: Query, line: &[u8], table: &[u64]) -> io::Result<()>
     ensures { IfOk result (λ r. r ≡ tt) }
 {
     let mut room = [0u8; 4096];
-    let octets = octets_of(word_of(line, row, b'I'), &mut room);
-    match call {
-        1 | 3 | 4 | 14 => outputs::make(to, call, row, line, octets, table),
-        _ => views::make(to, call, row, line, octets, table),
+    let octets = octets_of(word_of(line, row.row, b'I'), &mut room);
+    match query {
+        Query::Header => views::header(row, line, octets),
+        Query::Sound => row.result(chain::sound(octets, bits_at(line, 1)), b""),
+        Query::Weight => views::weight(row, octets),
+        Query::Measure => views::measure(row, line),
+        Query::Verdict => views::verdict(row, line, octets, table),
+        _ => outputs::make(row, query, line, octets, table),
     }
 }

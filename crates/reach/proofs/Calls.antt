@@ -14,17 +14,15 @@ use Rattle.octets.proofs.Written.{zeros-octets}
 use Rattle.header.specs.Edition.{most_timescale}
 use Rattle.chain.specs.Field.{first_of}
 use Rattle.chain.specs.Content.{Content, chain_octets, AllFit}
-use Rattle.chain.specs.declared.find.Occurrence.{Occurrence}
-use Rattle.chain.specs.declared.find.Occurrence.TheVariants.{At, Absent}
+use Rattle.chain.specs.declared.cursor.Field.{Field}
+use Rattle.std.specs.Prelude.{Option as Found, Some, None}
 use Rattle.chain.proofs.Contents.{NoneOf, AllOctets}
 use Rattle.poll_request.specs.Request.{poll_length}
-use Rattle.exchange.specs.Response.{with_chunk, response_of}
-use Rattle.exchange.specs.declared.response.Response.{Response}
+use Rattle.exchange.specs.Response.{with_chunk, response_of, Response}
 use Rattle.state.specs.Plain.{Outstanding, Opened, Place, closed, opened, place_edition, is_last, missed_counted, sent_cookie, exchanged, received, place_do}
 use Rattle.state.specs.Numbers.{HeadFits, place_head}
-use Rattle.state.specs.declared.event.Event.{Event}
-use Rattle.state.specs.declared.event.Event.TheVariants.{Poll, Sent, Receive}
-use Rattle.state.specs.declared.event.Reply.{Reply}
+use Rattle.state.specs.Event.{Event, Poll, Sent, Receive}
+use Rattle.state.specs.Reply.{Reply}
 use Rattle.state.specs.declared.head.Head.{Head}
 use Rattle.state.specs.declared.head.Saved.{Saved}
 use Rattle.order.specs.Order.{TaggedCall, after, EveryCall}
@@ -63,7 +61,7 @@ abbrev waiting : (k t1 : ℕ) → Bool → Opened → Opened
 waiting k t1 i o = exchanged o (some k) (some (request k t1 i o)) o.saved (missed_counted o)
 
 -- the place after a response of its edition that has the saved numbers v and the fields cs, in which a chunk is found, or none
-abbrev answered : Saved → (k : ℕ) → List Content → Occurrence → Opened → Opened
+abbrev answered : Saved → (k : ℕ) → List Content → Found Field → Opened → Opened
 answered v k cs c o =
     received (with_chunk c (response_header o.edition v k) v.t4) (response_datagram o.edition v k cs) (waiting k v.t1 false o) (request k v.t1 false o)
 
@@ -91,17 +89,17 @@ module _ {a : ℕ} (inside : a < 16) (h : Head) where
     v = h.saved
 
     -- the response is accepted, with a chunk or without
-    accepted : (c : Occurrence) (cs : List Content) (k : ℕ) (o : Opened)
+    accepted : (c : Found Field) (cs : List Content) (k : ℕ) (o : Opened)
         → (place_do (Receive (with_chunk c (response_header o.edition v k) v.t4)) (response_datagram o.edition v k cs) (opened (waiting k v.t1 false o))).1
         ≡ opened (answered v k cs c o)
     unfolding place_do
-    accepted (At f) cs k o = rw (ne_eqb v.t4 0 nonzero, eq-eqb k k refl, not-interleaved o.edition)
-    accepted Absent cs k o = rw (ne_eqb v.t4 0 nonzero, eq-eqb k k refl, not-interleaved o.edition)
+    accepted (Some f) cs k o = rw (ne_eqb v.t4 0 nonzero, eq-eqb k k refl, not-interleaved o.edition)
+    accepted None cs k o = rw (ne_eqb v.t4 0 nonzero, eq-eqb k k refl, not-interleaved o.edition)
 
     -- a poll, its T1 and the response, which is one of the place's edition
     pub round : (o : Opened) → v.timescale ≤ most_timescale o.edition → (k : ℕ) → Polls k o.last
         → (cs : List Content) → AllFit cs → NoneOf 0xF502 cs → AllOctets cs → length (chain_octets cs) ≤ 1232
-        → (c : Occurrence) → first_of 0xF504 (looked_at o.edition cs) ≡ c
+        → (c : Found Field) → first_of 0xF504 (looked_at o.edition cs) ≡ c
         → From a (opened (answered v k cs c o)) h → From a (opened o) h
     round o timescale k p cs fit none octets room c is l =
         let e = o.edition in
@@ -110,5 +108,5 @@ module _ {a : ℕ} (inside : a < 16) (h : Head) where
         (call inside (receive a d v.t4) (Receive (response_of e d v.t4)) d (omega arith, response-octets e v k cs octets, fits.saved-t4)
         (λ ps at. ap (λ (x : Place). (at_place a (Receive (response_of (place_edition x) d v.t4)) d ps).1) at)
         (ap (λ (r : Response). (place_do (Receive r) d (opened (waiting k v.t1 false o))).1)
-        (response-read e h fits timescale k p.fits cs fit none room v.t4 ∙ ap (λ (x : Occurrence). with_chunk x (response_header e v k) v.t4) is)
+        (response-read e h fits timescale k p.fits cs fit none room v.t4 ∙ ap (λ (x : Found Field). with_chunk x (response_header e v k) v.t4) is)
         ∙ accepted c cs k o) l)

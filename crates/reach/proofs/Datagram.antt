@@ -23,7 +23,7 @@ use Rattle.chain.specs.Chain.{sound_refusal}
 use Rattle.chain.specs.Field.{fields_in, first_of}
 use Rattle.chain.specs.Content.{Content, chain_octets, AllFit, placed}
 use Rattle.chain.specs.declared.cursor.Field.{Field}
-use Rattle.chain.specs.declared.find.Occurrence.TheVariants.{Absent}
+use Rattle.std.specs.Prelude.{None}
 use Rattle.chain.proofs.Contents.{NoneOf, AllOctets, chain-fours, chain-octets, fields-written}
 use Rattle.chain.proofs.Datagrams.{sound-datagram, fields-pass}
 use Rattle.exchange.specs.Response.{with_chunk, response_of}
@@ -62,7 +62,7 @@ looked_at One cs = []
 looked_at Seven cs = placed 48 cs
 
 -- without fields there is no chunk
-pub none_found : (e : Edition) → first_of 0xF504 (looked_at e []) ≡ Absent
+pub none_found : (e : Edition) → first_of 0xF504 (looked_at e []) ≡ None
 unfolding first_of placed
 none_found One = refl
 none_found Seven = refl

@@ -11,7 +11,7 @@ use lib.Dec.{eqb, ltb, lit<}
 use lib.ListN.{replicate}
 use Rattle.header.specs.Edition.{edition_of, most_timescale}
 use Rattle.chain.specs.Content.{chain_octets}
-use Rattle.chain.specs.declared.find.Occurrence.TheVariants.{Absent}
+use Rattle.std.specs.Prelude.{None}
 use Rattle.state.specs.Range.{in_range}
 use Rattle.state.specs.Plain.{Outstanding, Opened, closed, opened, newly_opened, is_last, counted_by, saved_server, exchanged, place_do}
 use Rattle.state.specs.Numbers.{HeadFits, place_head, cookie_in, saved_in, opened_in}
@@ -19,7 +19,7 @@ use Rattle.state.specs.declared.head.Head.{Head}
 use Rattle.state.proofs.Chunks.{or_cases}
 use Rattle.state.proofs.Ranges.{which, OpenRanges, open-ranges, AskedRanges, asked-ranges, none-missed}
 use Rattle.state.proofs.Numbers.{head-back, heads-back, server-back}
-use Rattle.state.specs.declared.event.Event.TheVariants.{Open}
+use Rattle.state.specs.Event.{Open}
 use Rattle.order.specs.Order.{after}
 use Rattle.client_rules.specs.Call.{open_one}
 use Rattle.client_rules.specs.Plain.{closed_table}
@@ -115,7 +115,7 @@ module _ {a : ℕ} (inside : a < 16) (h : Head) (fits : HeadFits h) (r : OpenRan
       ends : Leads a h h.next h.taken
       ends f last v n =
           let once : (k : ℕ) → Polls k last → Before f (some k) → From a (opened (none_outstanding h h.next h.taken f last v)) h =
-          λ k p l. round inside h fits nonzero (none_outstanding h h.next h.taken f last v) timescale k p [] tt tt tt (omega arith) Absent (none_found (edition_of h.state)) (rw e at l) in
+          λ k p l. round inside h fits nonzero (none_outstanding h h.next h.taken f last v) timescale k p [] tt tt tt (omega arith) None (none_found (edition_of h.state)) (rw e at l) in
           by-outcome (eqb h.outstanding 0)
           (λ t. let z = last-polls (rw (t, e)) n in once h.last.0 z (none_left f _ t (rw (ne_eqb h.last.0 0 z.nonzero))))
           (λ t. let k = choose h.last.0 last in once k.cookie k.polls (asking t f _ k.before))

@@ -2,20 +2,21 @@
 use mathlib.Core.Path.{◌≡◌, refl, sym, ap, ◌∙◌}
 use mathlib.Core.Bool.{Bool, true, false, cond}
 use mathlib.Core.List.{List, [], ◌∷◌}
-use Prim.Native.Nat.{ℕ, suc, ◌+◌, ◌-◌, ◌<◌, ◌≤◌}
+use Prim.Native.Nat.{ℕ, suc, ◌+◌, ◌-◌, ◌<◌}
 use native.Mathlib.Nat.{zero-add}
 use native.Mathlib.Omega.{arith}
-use borrow.Author.Tests.{ltb-true}
 use lib.Dec.{eqb, ltb}
-use lib.ListN.{length, set}
+use lib.ListN.{length, get_or, set}
 use lib.Seq.{set_out}
 use Rattle.store_rules.specs.Row.{Record, held}
 use Rattle.store_rules.specs.Place.{index_of}
 use Rattle.octets.proofs.Tests.{or-none}
 use Rattle.store_rules.proofs.Rows.{held-index, index-past}
-use Rattle.records.specs.Records.{unused_record, time_at, leave_records, with_cookie_at_free, join_records, place_from}
-use Rattle.records.specs.Value.{join_place_by, join_place_for}
-use Rattle.records.proofs.Moves.{length-leave, leave-past}
+use Rattle.records.specs.Records.{records_in, unused_record, time_at, leave_records, with_cookie_at_free, join_records, place_from}
+use Rattle.records.specs.declared.Record.{Record as Slot}
+use Rattle.header.specs.declared.ServerCookie.{ServerCookie}
+use Rattle.records.proofs.Slots.{none, get_in, set-in}
+use Rattle.records.proofs.Moves.{length-leave}
 
 -- the record at a place with a cookie
 abbrev pub with_cookie : List Record → ℕ → ℕ → List Record
@@ -55,18 +56,16 @@ module _ (rs : List Record) (c free : ℕ) (e : free ≡ place_from rs 0 0) wher
   unfolding join_records
   join-full q = rw (had false q) (with-cookie-set c (leave_records rs 0))
 
-  -- there is a place for it: the cookie goes there
-  pub join-placed : (join_place_for free (length rs)).at < length rs → with_cookie (leave_records rs (join_place_for free (length rs)).leaving) (join_place_for free (length rs)).at c ≡ join_records rs c
-  join-placed = go (ltb free (length rs)) refl
-    where
-      go : (b : Bool) → ltb free (length rs) ≡ b → (join_place_by b free (length rs)).at < length rs → with_cookie (leave_records rs (join_place_by b free (length rs)).leaving) (join_place_by b free (length rs)).at c ≡ join_records rs c
-      go true q l = ap (λ (s : List Record). with_cookie s free c) (leave-past rs (length rs) (omega arith)) ∙ sym (join_free q)
-      go false q l = sym (join-full q ∙ ap (λ (i : ℕ). with_cookie (leave_records rs 0) i c) (last-free rs (had false q) (omega (arith, l))))
+  -- which is the last
+  pub join-last : ltb free (length rs) ≡ false → 0 < length rs → join_records rs c ≡ with_cookie (leave_records rs 0) (length rs - 1) c
+  join-last q l = join-full q ∙ ap (λ (i : ℕ). with_cookie (leave_records rs 0) i c) (last-free rs (had false q) l)
 
-  -- there is no place: there are no records
-  pub join-none : length rs ≤ (join_place_for free (length rs)).at → leave_records rs (join_place_for free (length rs)).leaving ≡ join_records rs c
-  join-none = go (ltb free (length rs)) refl
-    where
-      go : (b : Bool) → ltb free (length rs) ≡ b → length rs ≤ (join_place_by b free (length rs)).at → leave_records rs (join_place_by b free (length rs)).leaving ≡ join_records rs c
-      go true q l = absurd (omega (arith, l, ltb-true free (length rs) q))
-      go false q l = sym (join-full q ∙ set_out (leave_records rs 0) (index_of 0 (leave_records rs 0)) _ (omega (arith, l, length-leave rs 0)))
+  -- without records there is no place
+  pub join-none : ltb free (length rs) ≡ false → length rs ≡ 0 → join_records rs c ≡ leave_records rs 0
+  join-none q l = join-full q ∙ set_out (leave_records rs 0) (index_of 0 (leave_records rs 0)) _ (omega (arith, length-leave rs 0))
+
+-- a slice's record gets a cookie
+pub cookie-in : (rs : List Slot) (i : ℕ) (c : ServerCookie) → records_in (set rs i (record { cookie = c; time = (get_or rs i none).time })) ≡ with_cookie (records_in rs) i c.0
+cookie-in rs i c =
+    set-in rs i (record { cookie = c; time = (get_or rs i none).time })
+    ∙ ap (λ (r : Record). set (records_in rs) i (record { cookie = c.0; time = r.time })) (sym (get_in rs i))

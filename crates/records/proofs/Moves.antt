@@ -1,26 +1,19 @@
 -- Records that move up or are cleared, one by one. Assumes nothing.
 use mathlib.Core.Path.{◌≡◌, refl, sym, ap, ◌∙◌}
-use mathlib.Core.Bool.{Bool, true, false}
+use mathlib.Core.Bool.{true, false}
 use mathlib.Core.List.{List, [], ◌∷◌, ◌++◌, append-nil, append_assoc}
-use Prim.Native.Nat.{ℕ, zero, suc, ◌+◌, ◌<◌, ◌≤◌, min}
-use native.Mathlib.Numerals.{add-one}
+use Prim.Native.Nat.{ℕ, zero, suc, ◌+◌, ◌-◌, ◌<◌, ◌≤◌}
 use native.Mathlib.Omega.{arith}
-use borrow.Author.Tests.{ltb-true, ltb-false}
-use lib.Dec.{ltb}
-use lib.ListN.{length, get_or, set, take, drop, replicate, length-append, length-take, length-drop, length-replicate, drop_of_length-le, get_or-append, replicate-append-replicate}
-use lib.Seq.{take-suc, take_all, set_at, get_or-take, length-take-le}
+use lib.ListN.{length, get_or, set, take, drop, replicate, length-append, length-take, length-drop, drop_of_length-le}
+use Rattle.std.proofs.lemmas.List.{map-append, take-map, drop-map}
+use lib.Seq.{take_all, set_at, drop-append-le, drop-cons, length-take-le}
+use Rattle.std.specs.List.{copy_within}
 use Rattle.store_rules.specs.Row.{Record}
-use Rattle.records.specs.Records.{unused_record, wrong_count, clear_records, leave_records}
-use Rattle.records.proofs.Slots.{next-in}
+use Rattle.records.specs.Records.{record_of, records_in, unused_record, wrong_count, clear_records, leave_records}
+use Rattle.records.specs.declared.Record.{Record as Slot}
+use Rattle.records.proofs.Slots.{none, length-in}
 
 -- ---- a record leaves
-
--- an unused record at the end is what stands past it
-get-padded : (rs : List Record) (k : ℕ) → get_or (rs ++ (unused_record ∷ [])) k unused_record ≡ get_or rs k unused_record
-get-padded [] zero = refl
-get-padded [] (suc k) = refl
-get-padded (r ∷ rs) zero = refl
-get-padded (r ∷ rs) (suc k) = get-padded rs k
 
 -- as many records stay
 pub length-leave : (rs : List Record) (at : ℕ) → length (leave_records rs at) ≡ length rs
@@ -36,45 +29,51 @@ leave-past rs at h =
     let l : length (rs ++ (unused_record ∷ [])) ≤ at + 1 = omega (arith, length-append rs (unused_record ∷ [])) in
     rw (take_all at rs h, drop_of_length-le (rs ++ (unused_record ∷ [])) {i = at + 1} l) (append-nil rs)
 
--- so to leave from the end or from past it is the same
-pub leave-end : (rs : List Record) (i at : ℕ) → i ≡ min at (length rs) → leave_records rs i ≡ leave_records rs at
-leave-end rs i at e = go (ltb at (length rs)) refl
+-- those after it have moved up by one, and the last is unused
+pub leave-moved : (rs l : List Slot) (at : ℕ) → at < length rs → l ≡ copy_within rs (at + 1) (length rs) at → records_in (set l (length rs - 1) none) ≡ leave_records (records_in rs) at
+unfolding leave_records
+leave-moved rs l at h e =
+    ap records_in stored
+    ∙ map-append record_of (take at rs) (drop (at + 1) (rs ++ (none ∷ [])))
+    ∙ rw (take-map record_of at rs, ← map-append record_of rs (none ∷ []), drop-map record_of (at + 1) (rs ++ (none ∷ [])))
   where
-    go : (b : Bool) → ltb at (length rs) ≡ b → leave_records rs i ≡ leave_records rs at
-    go true q = let l = ltb-true at (length rs) q in ap (leave_records rs) (omega arith)
-    go false q = let l = ltb-false at (length rs) q in leave-past rs i (omega arith) ∙ sym (leave-past rs at l)
+    n : ℕ
+    n = length rs
 
-module _ (rs : List Record) (i j : ℕ) (e : i ≡ j + 1) (h : j < length rs) where
-  -- where the records from i on have moved up: that which stands before them
-  pub leave-read : get_or (leave_records rs i) j unused_record ≡ get_or rs j unused_record
-  unfolding leave_records
-  leave-read =
-      get_or-append (take i rs) (drop (i + 1) (rs ++ (unused_record ∷ []))) unused_record j (omega (arith, length-take-le i rs (omega arith)))
-      ∙ get_or-take i rs j unused_record (omega arith)
+    kept : List Slot
+    kept = take at rs ++ drop (at + 1) rs
 
-  -- one record more moves up
-  pub leave-step : set (leave_records rs i) j (get_or rs i unused_record) ≡ leave_records rs j
-  unfolding leave_records
-  leave-step =
-      let ps = rs ++ (unused_record ∷ []) in
-      let l : j + 1 < length ps = omega (arith, length-append rs (unused_record ∷ [])) in
-      let t : take (j + 1) rs ≡ take j rs ++ (get_or rs j unused_record ∷ []) = rw (add-one j) (take-suc rs j unused_record h) in
-      rw (e, t, append_assoc, set_at (take j rs) (get_or rs j unused_record) (drop (j + 1 + 1) ps) (get_or rs (j + 1) unused_record) j (length-take-le j rs (omega arith)), next-in ps (j + 1) l, get-padded rs (j + 1))
+    last : Slot
+    last = get_or rs (n - 1) none
+
+    -- the last one stands twice
+    moved : l ≡ kept ++ (last ∷ [])
+    moved =
+        let t : take (n - (at + 1)) (drop (at + 1) rs) ≡ drop (at + 1) rs = take_all (n - (at + 1)) (drop (at + 1) rs) (omega (arith, length-drop (at + 1) rs)) in
+        let i : at + (n - (at + 1)) ≡ n - 1 = omega (arith, h) in
+        let m : suc (n - 1) ≡ n = omega (arith, h) in
+        let d : drop (n - 1) rs ≡ last ∷ [] = drop-cons rs (n - 1) none (omega (arith, h)) ∙ ap (λ (l : List Slot). last ∷ l) (rw m (drop_of_length-le rs {i = n} (omega arith))) in
+        e ∙ rw (t, i, d)
+
+    stored : set l (n - 1) none ≡ take at rs ++ drop (at + 1) (rs ++ (none ∷ []))
+    stored =
+        let k : length kept ≡ n - 1 = length-append (take at rs) (drop (at + 1) rs) ∙ omega (arith, length-take-le at rs (omega (arith, h)), length-drop (at + 1) rs, h) in
+        ap (λ (l : List Slot). set l (n - 1) none) moved
+        ∙ set_at kept last [] none (n - 1) k
+        ∙ append_assoc (take at rs) (drop (at + 1) rs) (none ∷ [])
+        ∙ ap (λ (l : List Slot). take at rs ++ l) (sym (drop-append-le (at + 1) rs (none ∷ []) (omega (arith, h))))
 
 -- ---- every record is cleared
 
--- one record more
-pub clear_step : (rs : List Record) (i : ℕ) → i < length rs → set (replicate i unused_record ++ drop i rs) i unused_record ≡ replicate (i + 1) unused_record ++ drop (i + 1) rs
-clear_step rs i h =
-    rw (next-in rs i h, set_at (replicate i unused_record) (get_or rs i unused_record) (drop (i + 1) rs) unused_record i (length-replicate i unused_record))
-    (sym (append_assoc (replicate i unused_record) (unused_record ∷ []) (drop (i + 1) rs)) ∙ rw (replicate-append-replicate i 1 unused_record))
+unused-in : (n : ℕ) → records_in (replicate n none) ≡ replicate n unused_record
+unused-in zero = refl
+unused-in (suc n) = ap (λ (l : List Record). unused_record ∷ l) (unused-in n)
 
--- all of them
-pub clear-done : (rs l : List Record) → wrong_count (length rs) ≡ false → l ≡ replicate (length rs) unused_record ++ drop (length rs) rs → (0, l) ≡ clear_records rs
+pub clear-done : (rs l : List Slot) → wrong_count (length rs) ≡ false → l ≡ replicate (length rs) none → (0, records_in l) ≡ clear_records (records_in rs)
 unfolding clear_records
-clear-done rs l h e = rw (h, e, drop_of_length-le rs {i = length rs} (omega arith)) (ap (λ (l : List Record). (0, l)) (append-nil (replicate (length rs) unused_record)))
+clear-done rs l h e = rw (length-in rs, h, e) (ap (λ (l : List Record). (0, l)) (unused-in (length rs)))
 
 -- not of a row of the wrong size
-pub clear-refused : (rs : List Record) → wrong_count (length rs) ≡ true → (6, rs) ≡ clear_records rs
+pub clear-refused : (rs : List Slot) → wrong_count (length rs) ≡ true → (6, records_in rs) ≡ clear_records (records_in rs)
 unfolding clear_records
-clear-refused rs h = rw h
+clear-refused rs h = rw (length-in rs, h)

@@ -6,8 +6,9 @@ use Prim.Native.Nat.{ℕ, ◌<◌, ◌≤◌}
 use native.Mathlib.Nat.{zero-add}
 use borrow.Author.Tests.{eqb-true, eqb-false, lt-ltb, le-ltb}
 use lib.Dec.{eqb}
+use Rattle.std.specs.Prelude.{Result, Ok, Err}
 use lib.ListN.{length, get_or, set}
-use lib.Seq.{get_or_at, set_at, set-get_or}
+use lib.Seq.{get_or_at, set_at}
 use Rattle.store_rules.specs.Row.{Record, held, time_of, with_time, used_of}
 use Rattle.store_rules.specs.Place.{index_of}
 use Rattle.octets.proofs.Tests.{or-none}
@@ -16,7 +17,6 @@ use Rattle.store_rules.proofs.Stores.{held-used}
 use Rattle.records.specs.Records.{record_of, records_in, unused_record, wrong_records, report_records, place_from}
 use Rattle.records.specs.Value.{reported_one, absent_refusal}
 use Rattle.records.specs.declared.Record.{Record as Slot}
-use Rattle.records.specs.declared.value.Report.{Report}
 use Rattle.records.proofs.Slots.{none, length-in, get_in, set-in}
 use Rattle.records.proofs.Sounds.{Sound, held-row, time-row, right-sound}
 
@@ -54,6 +54,11 @@ report-absent rs c t p w ew ep l = go (wrong_records rs || eqb t 0) refl
     go true h = rw (ew, h) (report-six rs c t h)
     go false h = rw (ew, h) (report-twelve rs c t h (held-used c rs not-held))
 
+-- what a report answers and leaves, by what becomes of the record at p
+abbrev pub settled : List Slot → (p : ℕ) → Result Slot ℕ → ℕ × List Record
+settled rs p (Ok s) = (0, records_in (set rs p s))
+settled rs p (Err n) = (n, records_in rs)
+
 -- the record at p has it
 module _ (rs : List Slot) (c t p : ℕ) (ep : p ≡ place_from (records_in rs) c 0) (l : p < length rs) where
   place_is : index_of c (records_in rs) ≡ p
@@ -77,11 +82,7 @@ module _ (rs : List Slot) (c t p : ℕ) (ep : p ≡ place_from (records_in rs) c
   its-time : time_of c (records_in rs) ≡ (get_or rs p none).time
   its-time = parted.its-time ∙ ap (λ (r : Record). r.time) (sym found)
 
-  -- it is stored as it was
-  kept : records_in (set rs p (get_or rs p none)) ≡ records_in rs
-  kept = set-in rs p (get_or rs p none) ∙ rw (← get_in rs p) (set-get_or (records_in rs) p unused_record)
-
-  -- or with the time
+  -- it is stored with the time
   timed : Slot
   timed = record { cookie = (get_or rs p none).cookie; time = t }
 
@@ -95,16 +96,10 @@ module _ (rs : List Slot) (c t p : ℕ) (ep : p ≡ place_from (records_in rs) c
       ∙ set_at parted.before parted.found parted.after r p at_p
       ∙ sym (parted.changed t)
 
-  pub report-found : (w : Bool) → w ≡ wrong_records (records_in rs) → ((reported_one w (get_or rs p none) t).refusal, records_in (set rs p (reported_one w (get_or rs p none) t).after)) ≡ report_records (records_in rs) c t
+  pub report-found : (w : Bool) → w ≡ wrong_records (records_in rs) → settled rs p (reported_one w (get_or rs p none) t) ≡ report_records (records_in rs) c t
   unfolding timed
   report-found w ew = rw ew (go (wrong_records (records_in rs) || eqb t 0) (eqb (get_or rs p none).cookie.0 0) (eqb (get_or rs p none).time 0) refl refl refl)
     where
-      answer : (six zero-cookie no-time : Bool) → Report
-      answer six zero-cookie no-time =
-          cond six (record { refusal = 6; after = get_or rs p none })
-          (cond (zero-cookie || not no-time) (record { refusal = 12; after = get_or rs p none })
-          (record { refusal = 0; after = timed }))
-
       sound : wrong_records (records_in rs) || eqb t 0 ≡ false → Sound (records_in rs)
       sound h = right-sound (records_in rs) (or-none (wrong_records (records_in rs)) (eqb t 0) h).0
 
@@ -112,10 +107,10 @@ module _ (rs : List Slot) (c t p : ℕ) (ep : p ≡ place_from (records_in rs) c
       in_row h z = held-row c (records_in rs) (sound h) (λ e. eqb-false (get_or rs p none).cookie.0 0 z (its-cookie ∙ e)) ∙ is_held
 
       go : (six zero-cookie no-time : Bool) → wrong_records (records_in rs) || eqb t 0 ≡ six → eqb (get_or rs p none).cookie.0 0 ≡ zero-cookie → eqb (get_or rs p none).time 0 ≡ no-time
-          → ((answer six zero-cookie no-time).refusal, records_in (set rs p (answer six zero-cookie no-time).after)) ≡ report_records (records_in rs) c t
-      go true z u h ez eu = ap (λ (l : List Record). (6, l)) kept ∙ report-six (records_in rs) c t h
+          → settled rs p (cond six (Err 6) (cond (zero-cookie || not no-time) (Err 12) (Ok timed))) ≡ report_records (records_in rs) c t
+      go true z u h ez eu = report-six (records_in rs) c t h
       go false true u h ez eu =
           let e : c ≡ 0 = sym its-cookie ∙ eqb-true (get_or rs p none).cookie.0 0 ez in
-          ap (λ (l : List Record). (12, l)) kept ∙ report-twelve (records_in rs) c t h (ap (λ (d : ℕ). held d (used_of (records_in rs))) e ∙ (sound h).used)
-      go false false false h ez eu = ap (λ (l : List Record). (12, l)) kept ∙ report-again (records_in rs) c t h (in_row h ez) (rw (time-row c (records_in rs) (sound h), its-time) eu)
+          report-twelve (records_in rs) c t h (ap (λ (d : ℕ). held d (used_of (records_in rs))) e ∙ (sound h).used)
+      go false false false h ez eu = report-again (records_in rs) c t h (in_row h ez) (rw (time-row c (records_in rs) (sound h), its-time) eu)
       go false false true h ez eu = ap (λ (l : List Record). (0, l)) changed ∙ report-zero (records_in rs) c t h (in_row h ez) (rw (time-row c (records_in rs) (sound h), its-time) eu)

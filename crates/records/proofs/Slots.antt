@@ -1,14 +1,20 @@
 -- A slice's records one by one, and as the row's: what is read and what is stored is the same in both. Assumes nothing.
 use mathlib.Core.Path.{◌≡◌, refl, sym, ap, ◌∙◌}
-use mathlib.Core.Bool.{true, false}
+use mathlib.Core.Bool.{Bool, true, false, cond, not}
 use mathlib.Core.List.{List, [], ◌∷◌, map}
 use Prim.Native.Nat.{ℕ, zero, suc, ◌+◌, ◌<◌, ◌≤◌}
 use native.Mathlib.Nat.{add-zero}
 use native.Mathlib.Numerals.{add-one}
 use native.Mathlib.Omega.{arith}
-use lib.Dec.{eqb}
+use borrow.Author.Tests.{ltb-false}
+use lib.Dec.{eqb, ltb}
 use lib.ListN.{length, get_or, set, drop, length-map, get_or-map, drop_of_length-le}
 use lib.Seq.{drop-cons}
+use Rattle.std.specs.Prelude.{Option, Some, None}
+use Rattle.std.specs.List.{position_or_len, position, drop-map}
+use Rattle.std.specs.Option.{unwrap_or}
+use Rattle.std.proofs.lemmas.List.Recursion.{is_position_or_len}
+use Rattle.std.proofs.lemmas.List.Sums.{prefix_len-le-length}
 use Rattle.store_rules.specs.Row.{Record}
 use Rattle.store_rules.specs.Place.{index_of}
 use Rattle.records.specs.Records.{record_of, records_in, unused_record, OneToOne, place_from}
@@ -50,20 +56,31 @@ next-in rs i h = rw (add-one i) (drop-cons rs i unused_record h)
 
 -- ---- the search for a cookie
 
-module _ (rs : List Slot) (c i : ℕ) where
-  -- the record at the place has the cookie
-  pub place_here : i < length rs → eqb (get_or rs i none).cookie.0 c ≡ true → place_from (records_in rs) c i ≡ i
-  unfolding index_of
-  place_here h e =
-      let l : i < length (records_in rs) = rw (length-in rs) h in
-      rw (next-in (records_in rs) i l, get_in rs i, e) (add-zero i)
+-- the test of a slice's record
+abbrev pub has_cookie : ℕ → Slot → Bool
+has_cookie c r = eqb r.cookie.0 c
 
-  -- it hasn't
-  pub place-next : i < length rs → eqb (get_or rs i none).cookie.0 c ≡ false → place_from (records_in rs) c i ≡ place_from (records_in rs) c (i + 1)
-  unfolding index_of
-  place-next h e =
-      let l : i < length (records_in rs) = rw (length-in rs) h in
-      rw (next-in (records_in rs) i l, get_in rs i, e) (omega arith)
+-- where the first record with a cookie stands, in the slice
+index-in : (c : ℕ) (rs : List Slot) → index_of c (records_in rs) ≡ position_or_len (has_cookie c) rs
+unfolding index_of
+index-in c rs = is_position_or_len (λ l. index_of c (records_in l)) (has_cookie c) refl (λ x xs. refl) rs
+
+module _ (rs : List Slot) (c i : ℕ) where
+  -- what is passed before it, from a place on
+  pub place_after : (found : Option ℕ) (passed : ℕ) → found ≡ position (has_cookie c) (drop i rs) → passed ≡ unwrap_or found (length (drop i rs))
+      → i + passed ≡ place_from (records_in rs) c i
+  place_after found passed e u =
+      ap (λ (n : ℕ). i + n) (u ∙ ap (λ (o : Option ℕ). unwrap_or o (length (drop i rs))) e ∙ go (ltb n l) refl ∙ sym (index-in c (drop i rs)) ∙ ap (index_of c) (sym (drop-map record_of i rs)))
+    where
+      l : ℕ
+      l = length (drop i rs)
+
+      n : ℕ
+      n = position_or_len (has_cookie c) (drop i rs)
+
+      go : (b : Bool) → ltb n l ≡ b → unwrap_or (cond b (Some n) None) l ≡ n
+      go true q = refl
+      go false q = let m = ltb-false n l q in omega (arith, prefix_len-le-length (λ r. not (has_cookie c r)) (drop i rs))
 
   -- none is left to look at
   pub place_end : length rs ≤ i → place_from (records_in rs) c i ≡ i

@@ -4,13 +4,15 @@
 mod value;
 
 ghost use Rattle.std.specs.Prelude.{◌≡◌};
+ghost use Rattle.refusal.specs.Refusal.{outcome_number};
 ghost use Rattle.records.specs.Records.{records_in, place_from, time_at, wrong_records, clear_records, report_records, leave_records, join_records};
 
 use header::ServerCookie;
+use refusal::Refusal;
 use value::Seen;
 
 // R-2: an unused record has cookie 0 and time 0; a used one has time 0 until it is reported.
-#[derive(Clone, Copy)]
+#[derive(Clone, Copy, PartialEq, Eq)]
 pub struct Record {
     pub cookie: ServerCookie,
     pub time: u64,
@@ -26,24 +28,19 @@ pub const UNUSED: Record = Record {
 pub fn find(records: &[Record], from: usize, cookie: ServerCookie) -> usize
     ensures { result ≡ place_from (records_in records.now) cookie.0 from }
 {
-    let mut at = from;
-    while at < records.len() {
-        if records[at].cookie.0 == cookie.0 {
-            break;
-        }
-        at += 1;
+    if records.len() < from {
+        return from;
     }
-    at
+    let rest = &records[from..];
+    let passed = rest.iter().position(|record| record.cookie == cookie);
+    from + passed.unwrap_or(rest.len())
 }
 
 // The transmit time of the record at a place; 0 past the end.
 pub fn time(records: &[Record], at: usize) -> u64
     ensures { result ≡ time_at (records_in records.now) at }
 {
-    if at < records.len() {
-        return records[at].time;
-    }
-    0
+    records.get(at).map_or(0, |record| record.time)
 }
 
 // The store part of refusal 6: N-10 and N-14.
@@ -58,70 +55,59 @@ pub fn wrong(records: &[Record]) -> bool
         wrong: false,
         gap: false,
     };
-    let mut at = 0;
-    while at < n {
-        let record = records[at];
+    for (at, record) in records.iter().enumerate() {
         let later = find(records, at + 1, record.cookie);
-        seen = value::seen_after(seen, record, later < n);
-        at += 1;
+        seen = value::seen_after(seen, *record, later < n);
     }
     seen.wrong
 }
 
 // R-1: makes every record unused.
-pub fn clear(records: &mut [Record]) -> u8
-    ensures { (result, records_in records.new) ≡ clear_records (records_in records.old) }
+pub fn clear(records: &mut [Record]) -> Result<(), Refusal>
+    ensures { (outcome_number result, records_in records.new) ≡ clear_records (records_in records.old) }
 {
-    let n = records.len();
-    if value::wrong_count(n) {
-        return 6;
+    if value::wrong_count(records.len()) {
+        return Err(Refusal::BadArgument);
     }
-    let mut at = 0;
-    while at < n {
-        records[at] = UNUSED;
-        at += 1;
-    }
-    0
+    records.fill(UNUSED);
+    Ok(())
 }
 
 // R-3.
-pub fn report(records: &mut [Record], cookie: ServerCookie, time: u64) -> u8
-    ensures { (result, records_in records.new) ≡ report_records (records_in records.old) cookie.0 time }
+pub fn report(records: &mut [Record], cookie: ServerCookie, time: u64) -> Result<(), Refusal>
+    ensures { (outcome_number result, records_in records.new) ≡ report_records (records_in records.old) cookie.0 time }
 {
     let is_wrong = wrong(records);
     let at = find(records, 0, cookie);
     if at < records.len() {
-        let report = value::reported(is_wrong, records[at], time);
-        records[at] = report.after;
-        return report.refusal;
+        records[at] = value::reported(is_wrong, records[at], time)?;
+        return Ok(());
     }
-    value::absent(is_wrong, time)
+    Err(value::absent(is_wrong, time))
 }
 
-// R-10: the record at a place leaves: from the end on, each later one goes to the place before its own.
+// R-10: the record at a place leaves, those after it move up, and the last is unused.
 pub fn leave(records: &mut [Record], at: usize)
     ensures { records_in records.new ≡ leave_records (records_in records.old) at }
 {
-    let mut last = UNUSED;
-    let mut i = records.len();
-    while at < i {
-        i -= 1;
-        let record = records[i];
-        records[i] = last;
-        last = record;
+    let n = records.len();
+    if at < n {
+        records.copy_within(at + 1.., at);
+        records[n - 1] = UNUSED;
     }
 }
 
-// R-12, R-13: a cookie joins the row.
+// R-12, R-13: a cookie joins the row. Where that is full, its first record leaves.
 pub fn join(records: &mut [Record], cookie: ServerCookie)
     ensures { records_in records.new ≡ join_records (records_in records.old) cookie.0 }
 {
-    let n = records.len();
     let free = find(records, 0, ServerCookie(0));
-    let place = value::join_place_for(free, n);
-    leave(records, place.leaving);
-    let at = place.at;
-    if at < n {
-        records[at] = value::with_cookie(records[at], cookie);
+    if free < records.len() {
+        records[free].cookie = cookie;
+        return;
+    }
+    leave(records, 0);
+    if let Some(newest) = records.last_mut() {
+        newest.cookie = cookie;
     }
 }

@@ -7,12 +7,11 @@ use lib.ListN.{length, drop}
 use Rattle.header.specs.Header.{reading}
 use Rattle.store_rules.specs.Row.{Record, used_of}
 use Rattle.responder_rules.specs.Answer.{Given, asking, saved_time, answer_octets, first_refusal, short_output}
-use Rattle.responder_rules.specs.declared.Answered.{Answered}
+use Rattle.std.specs.Prelude.{Result}
 use Rattle.responder_rules.proofs.Accepting.{first-pass}
-use Rattle.answer_plan.specs.Step.{Stepped, stepped}
+use Rattle.answer_plan.specs.Step.{AnswerStep, Stepped, stepped}
 use Rattle.records_answer.specs.Answer.{checked_request, step_of, Outcome, outcome, answer_records}
 use Rattle.records_answer.specs.Sent.{Ready, sent_octets, answer_sent}
-use Rattle.answer_plan.specs.declared.AnswerStep.{AnswerStep}
 use Rattle.records_answer.proofs.Ways.{Way, goes, stops, done, way, answer-done, answer-stopped}
 
 -- the same with other records
@@ -35,7 +34,7 @@ module _ (g : Given) (rs : List Record) (out : List ℕ) (step : AnswerStep) (l 
       go (goes n s q) = record { header = ap (λ (m : ℕ). reading m (asking g)) n; accepted = (first-pass g n).accepted; room = s }
       go (stops n q) = absurd (n (sym number ∙ z))
 
-  pub answered : (r : Answered) (o : List ℕ) → outcome r o [] ≡ answer_sent g step out → outcome r o l ≡ answer_records g rs out
+  pub answered : (r : Result ℕ ℕ) (o : List ℕ) → outcome r o [] ≡ answer_sent g step out → outcome r o l ≡ answer_records g rs out
   answered r o w = ap (leaving l) w ∙ go (way g rs out)
     where
       go : Way g rs (first_refusal g) (short_output g out) (step_of g rs out) → leaving l (answer_sent g step out) ≡ answer_records g rs out

@@ -9,8 +9,7 @@ use lib.Dec.{eqb, ltb}
 use lib.ListN.{length, take, drop, replicate}
 use Rattle.octets.proofs.Tests.{by-test}
 use Rattle.header.specs.declared.Header.{Header}
-use Rattle.header.specs.declared.Reading.{Reading}
-use Rattle.header.specs.declared.Reading.TheVariants.{Fields, Refused}
+use Rattle.std.specs.Prelude.{Result, Ok, Err}
 use Rattle.store_rules.specs.Row.{Record, held, with_time, without, unused, used_of}
 use Rattle.records.specs.Records.{unused_record, Fit, wrong_count, wrong_records, clear_records, report_refusal, report_records, leave_records, with_cookie_at_free, join_records}
 use Rattle.responder_rules.specs.Answer.{Given, wants_interleaved, saved_time, row_after, wrong_fresh, short_output, refused_answer}
@@ -86,10 +85,10 @@ fit-after asked fresh_cookie n row h f =
     (λ e. fit_append rest (record { cookie = fresh_cookie; time = 0 } ∷ []) (by-test Fit (ltb (length left) n) (λ q. g) (λ q. fit-drop 1 left g)) (h, omega arith, tt))
     (λ e. f)
 
-fit-answer : (request : Reading) (short : Bool) (fresh_cookie : ℕ) (rs : List Record) → fresh_cookie < 2 ^ 64 → Fit rs → Fit (answer_step request short fresh_cookie rs).records
+fit-answer : (request : Result Header ℕ) (short : Bool) (fresh_cookie : ℕ) (rs : List Record) → fresh_cookie < 2 ^ 64 → Fit rs → Fit (answer_step request short fresh_cookie rs).records
 unfolding answer_step
-fit-answer (Refused n) short fresh_cookie rs h f = f
-fit-answer (Fields asked) short fresh_cookie rs h f =
+fit-answer (Err n) short fresh_cookie rs h f = f
+fit-answer (Ok asked) short fresh_cookie rs h f =
     let row = row_after asked fresh_cookie (length rs) (used_of rs) in
     by-test (λ (s : Stepped). Fit s.records) (eqb (refused_answer (wrong_records rs) 0 (wrong_fresh asked fresh_cookie (used_of rs)) short) 0)
     (λ e. fit_append row (replicate (length rs - length row) unused_record) (fit-after asked fresh_cookie (length rs) (used_of rs) h (fit-used rs f)) (fit-unused (length rs - length row)))

@@ -1,14 +1,13 @@
 -- The answer to a request, R-4 to R-20, where the row is a slice of records, G-9, for any records lent.
-use Rattle.std.specs.Prelude.{cond, List, ℕ, eqb, length}
+use Rattle.std.specs.Prelude.{Result, cond, List, ℕ, eqb, length}
 use Rattle.header.specs.Header.{reading}
-use Rattle.header.specs.declared.Reading.{Reading}
+use Rattle.header.specs.declared.Header.{Header}
 use Rattle.store_rules.specs.Row.{Record, used_of}
 use Rattle.responder_rules.specs.Answer.{Given, asking, output_after, first_refusal, short_output, numbers_of}
-use Rattle.responder_rules.specs.declared.Answered.{Answered}
 use Rattle.answer_plan.specs.Step.{Stepped, answer_step}
 
 -- the header of the request, or what it or the arguments are refused by
-abbrev pub checked_request : Given → Reading
+abbrev pub checked_request : Given → Result Header ℕ
 checked_request g = reading (first_refusal g) (asking g)
 
 -- the step of an answer
@@ -22,7 +21,7 @@ pub record Outcome : Type 0 where
   pub out : List ℕ
   pub records : List Record
 
-abbrev pub outcome : Answered → (out : List ℕ) → List Record → Outcome
+abbrev pub outcome : Result ℕ ℕ → (out : List ℕ) → List Record → Outcome
 outcome r out rs = record { refusal = (numbers_of r).0; size = (numbers_of r).1; out = out; records = rs }
 
 unfoldable pub answer_records : Given → List Record → (out : List ℕ) → Outcome

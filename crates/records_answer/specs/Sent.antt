@@ -1,17 +1,16 @@
 -- What is sent once the step is made, whatever the records are. The contracts of the calls do not cite it.
-use Rattle.std.specs.Prelude.{◌≡◌, false, cond, List, [], ◌++◌, ℕ, eqb, length, drop}
+use Rattle.std.specs.Prelude.{Result, Ok, ◌≡◌, false, cond, List, [], ◌++◌, ℕ, eqb, length, drop}
 use Rattle.header.specs.Header.{header_octets}
-use Rattle.header.specs.declared.Reading.{Reading}
-use Rattle.header.specs.declared.Reading.TheVariants.{Fields}
+use Rattle.header.specs.declared.Header.{Header}
 use Rattle.chain.specs.Content.{chain_octets}
 use Rattle.responder_rules.specs.Answer.{Given, asking, answer_header, sent_fields, short_output}
 use Rattle.responder_rules.specs.Claim.{Accepted}
 use Rattle.records_answer.specs.Answer.{Outcome}
-use Rattle.answer_plan.specs.declared.AnswerStep.{AnswerStep}
+use Rattle.answer_plan.specs.Step.{AnswerStep}
 
 -- what holds where the step is not refused
-pub record Ready (checked : Reading) (g : Given) (out : List ℕ) : Type 0 where
-  pub header : checked ≡ Fields (asking g)
+pub record Ready (checked : Result Header ℕ) (g : Given) (out : List ℕ) : Type 0 where
+  pub header : checked ≡ Ok (asking g)
   pub accepted : Accepted g
   pub room : short_output g out ≡ false
 

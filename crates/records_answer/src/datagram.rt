@@ -1,81 +1,42 @@
 // The parts of an answer that do not look at the records.
 ghost use Rattle.std.specs.Prelude.{◌≡◌, []};
-ghost use Rattle.header.specs.Header.{header_of, reading};
-ghost use Rattle.responder_rules.specs.Answer.{given, arguments_refusal};
-ghost use Rattle.records_answer.specs.Answer.{outcome};
+ghost use Rattle.refusal.specs.Refusal.{by_number};
+ghost use Rattle.responder_rules.specs.Answer.{given_as};
+ghost use Rattle.answer_plan.specs.Step.{step_as};
+ghost use Rattle.records_answer.specs.Answer.{checked_request, outcome};
 ghost use Rattle.records_answer.specs.Sent.{Ready, answer_sent};
 
-use answer_plan::AnswerStep;
+use header::Header;
 use header::edition::Edition;
-use header::{Reading, ServerCookie};
-use responder_rules::{Answered, Server};
+use refusal::Refusal;
+use responder_rules::Given;
 
 // The header of the request, or what it or the arguments are refused by: 6, then 1 to 5 and 13.
-pub(crate) fn checked(
-    edition: Edition,
-    server: Server,
-    request: &[u8],
-    filter: &[u8],
-    information: &[u8],
-    receive: u64,
-    estimate: u64,
-) -> Reading
-    ensures { result ≡ reading (arguments_refusal edition server request.now filter.now information.now receive estimate)
-        (header_of edition request.now) }
+pub(crate) fn checked(edition: Edition, given: Given<'_>) -> Result<Header, Refusal>
+    ensures { by_number result ≡ checked_request (given_as given.entry edition) }
 {
-    let number = responder::check(
-        edition,
-        server,
-        request,
-        filter,
-        information,
-        receive,
-        estimate,
-    );
-    if number != 0 {
-        return Reading::Refused(number);
-    }
-    header::read(edition, request, 3)
+    responder::check(edition, given)?;
+    header::read(edition, given.request, 3)
 }
 
 // What the step returned is the refusal, or the answer is written to the start of `out`.
 pub(crate) fn sent(
-    step: AnswerStep,
-    checked: Reading,
+    step: Result<u64, Refusal>,
+    checked: Result<Header, Refusal>,
     edition: Edition,
-    request: &[u8],
-    receive: u64,
-    estimate: u64,
-    fresh_cookie: ServerCookie,
-    server: Server,
-    filter: &[u8],
-    information: &[u8],
+    given: Given<'_>,
     out: &mut [u8],
-) -> Answered
-    requires { (step.refusal ≡ 0)
-        → Ready checked (given request.now receive estimate fresh_cookie.0 server filter.now information.now edition) out.old }
-    ensures { outcome result out.new []
-        ≡ answer_sent (given request.now receive estimate fresh_cookie.0 server filter.now information.now edition)
-        step out.old }
+) -> Result<u16, Refusal>
+    requires { ((step_as (by_number step)).refusal ≡ 0) → Ready (by_number checked) (given_as given edition) out.old }
+    ensures { outcome (by_number result) out.new []
+        ≡ answer_sent (given_as given.entry edition) (step_as (by_number step)) out.old }
 {
-    let number = step.refusal;
-    if number != 0 {
-        return Answered::Refused(number);
-    }
-    let Reading::Fields(asked) = checked else {
-        return Answered::Refused(number);
-    };
-    let n = request.len();
-    let header = answer_header::header_of(
-        server,
-        asked,
-        receive,
-        estimate,
-        fresh_cookie,
-        step.saved,
-    );
-    let part = &mut out[0..n];
-    header::write(header, part);
-    answer_fields::write(edition, request, filter, information, part);
-    Answered::Written(n as u16)
+    let saved = step?;
+    let asked = checked?;
+    let header = answer_header::header_of(given, asked, saved);
+    let n = given.request.len();
+    let part = &mut out[..n];
+    header::layout::put(header, part);
+    answer_fields::write(edition, given, part);
+    Ok(n as u16)
 }

@@ -4,91 +4,73 @@
 
 mod datagram;
 
-ghost use Rattle.std.specs.Prelude.{◌≡◌};
-ghost use Rattle.responder_rules.specs.Answer.{given};
-ghost use Rattle.records.specs.Records.{records_in};
-ghost use Rattle.answer_plan.specs.Step.{stepped, answer_step};
+ghost use Rattle.std.specs.Prelude.{◌≡◌, length};
+ghost use Rattle.std.specs.Option.{unwrap_or};
+ghost use Rattle.refusal.specs.Refusal.{by_number};
+ghost use Rattle.responder_rules.specs.Answer.{given_as};
+ghost use Rattle.records.specs.Records.{records_in, leave_records, join_records};
+ghost use Rattle.answer_plan.specs.Step.{step_as, stepped, answer_step};
 ghost use Rattle.records_answer.specs.Answer.{outcome, answer_records};
 
-use answer_plan::AnswerStep;
+use answer_plan::{Found, Plan};
 use header::edition::Edition;
-use header::{Reading, ServerCookie};
+use header::{Header, ServerCookie};
 use records::Record;
-pub use responder_rules::{Answered, Server};
+use refusal::Refusal;
+pub use responder_rules::{Given, Server};
 
-// The one step of an answer on the records: it decides all the refusals that are left, and where there is none, the record whose time is sent leaves and
-// the fresh cookie joins. `request` is its header or what it is refused by; `short`: the output is shorter than the answer.
-pub fn answer_step(
-    records: &mut [Record],
-    request: Reading,
-    short: bool,
-    fresh_cookie: ServerCookie,
-) -> AnswerStep
-    ensures { stepped result (records_in records.new) ≡ answer_step request short fresh_cookie.0 (records_in records.old) }
+// A record leaves, if one is to, and then the fresh cookie joins.
+fn replace(records: &mut [Record], leaving: Option<usize>, fresh_cookie: ServerCookie)
+    ensures { records_in records.new
+        ≡ join_records (leave_records (records_in records.old) (unwrap_or leaving (length records.old))) fresh_cookie.0 }
 {
-    let is_wrong = records::wrong(records);
-    let fresh_at = records::find(records, 0, fresh_cookie);
-    let at = records::find(records, 0, answer_plan::asked_cookie(request));
-    let time = records::time(records, at);
-    let n = records.len();
-    let plan = answer_plan::plan_of(
-        is_wrong,
-        request,
-        short,
-        fresh_cookie,
-        n,
-        fresh_at,
-        at,
-        time,
-    );
-    if plan.unchanged {
-        return plan.step;
+    if let Some(at) = leaving {
+        records::leave(records, at);
     }
-    records::leave(records, plan.leaving);
     records::join(records, fresh_cookie);
-    plan.step
 }
 
-// Answers a request: the answer goes to the start of `out` and is as long as the request (R-20). `fresh_cookie` is looked at only where the request
-// wants an interleaved answer (R-7, R-8).
+// The one step of an answer on the records: it decides all the refusals that are left, and where there is none, the record whose time is
+// sent leaves and the fresh cookie joins. `request` is its header or what it is refused by; `short`: the output is shorter than the answer.
+// The saved time is what is sent, and 0 in a basic answer.
+pub fn answer_step(
+    records: &mut [Record],
+    request: Result<Header, Refusal>,
+    short: bool,
+    fresh_cookie: ServerCookie,
+) -> Result<u64, Refusal>
+    ensures { stepped (step_as (by_number result)) (records_in records.new)
+        ≡ answer_step (by_number request) short fresh_cookie.0 (records_in records.old) }
+{
+    let at = records::find(records, 0, answer_plan::asked_cookie(request));
+    let found = Found {
+        wrong: records::wrong(records),
+        len: records.len(),
+        fresh_at: records::find(records, 0, fresh_cookie),
+        at,
+        time: records::time(records, at),
+    };
+    match answer_plan::plan_of(found, request, short, fresh_cookie)? {
+        Plan::Basic => Ok(0),
+        Plan::Interleaved { saved, leaving } => {
+            replace(records, leaving, fresh_cookie);
+            Ok(saved)
+        }
+    }
+}
+
+// Answers a request: the answer goes to the start of `out` and is as long as the request (R-20).
 pub fn answer(
     records: &mut [Record],
     edition: Edition,
-    request: &[u8],
-    receive: u64,
-    estimate: u64,
-    fresh_cookie: ServerCookie,
-    server: Server,
-    filter: &[u8],
-    information: &[u8],
+    given: Given<'_>,
     out: &mut [u8],
-) -> Answered
-    ensures { outcome result out.new (records_in records.new)
-        ≡ answer_records (given request.now receive estimate fresh_cookie.0 server filter.now information.now edition)
-        (records_in records.old) out.old }
+) -> Result<u16, Refusal>
+    ensures { outcome (by_number result) out.new (records_in records.new)
+        ≡ answer_records (given_as given.entry edition) (records_in records.old) out.old }
 {
-    let checked = datagram::checked(
-        edition,
-        server,
-        request,
-        filter,
-        information,
-        receive,
-        estimate,
-    );
-    let short = out.len() < request.len();
-    let step = answer_step(records, checked, short, fresh_cookie);
-    datagram::sent(
-        step,
-        checked,
-        edition,
-        request,
-        receive,
-        estimate,
-        fresh_cookie,
-        server,
-        filter,
-        information,
-        out,
-    )
+    let checked = datagram::checked(edition, given);
+    let short = out.len() < given.request.len();
+    let step = answer_step(records, checked, short, given.fresh_cookie);
+    datagram::sent(step, checked, edition, given, out)
 }

@@ -1,6 +1,6 @@
 // The line of a record.
 use c_structs::replayed::Replayed;
-use print::convert::{from_i64, from_u8, from_u16};
+use print::Row;
 use std::io;
 use std::io::Write;
 use text::{part, piece};
@@ -13,51 +13,39 @@ fn called<W: Write>(to: &mut W, number: u64, r: Replayed, out: &[u8]) -> io::Res
         sent - %d\n\
         receive - %r judgement=%d chunk=%d offset=%i delay=%d\n\
         close - %d\n";
-    let kind = r.kind;
-    let row = piece(rows, kind as usize, b'\n');
-    let refusal = from_u8(r.refusal);
-    match kind {
-        2 => print::numbered(
-            to,
-            number,
-            row,
-            &[refusal, from_u16(r.length), 0],
-            part(out, 0, r.length as usize),
-        ),
-        4 => print::numbered(
-            to,
-            number,
-            row,
-            &[
+    let row = Row {
+        to,
+        row: piece(rows, usize::from(r.kind), b'\n'),
+    };
+    let refusal = u64::from(r.refusal);
+    match r.kind {
+        2 => {
+            let written = part(out, 0, usize::from(r.length));
+            row.numbered(number, &[refusal, u64::from(r.length), 0], written)
+        }
+        4 => {
+            let values = [
                 refusal,
-                from_u8(r.judgement),
-                from_u8(r.chunk),
-                from_i64(r.offset),
+                u64::from(r.judgement),
+                u64::from(r.chunk),
+                r.offset.cast_unsigned(),
                 r.delay,
-            ],
-            out,
-        ),
-        _ => print::numbered(to, number, row, &[refusal], out),
+            ];
+            row.numbered(number, &values, b"")
+        }
+        _ => row.numbered(number, &[refusal], b""),
     }
 }
 
 // A call that was made, or what is wrong with the record; nothing at the end.
 pub(crate) fn record<W: Write>(to: &mut W, number: u64, r: Replayed, out: &[u8]) -> io::Result<()> {
-    let rows = b"-\n\
-        -\n\
-        record - %d: wrong mark\n\
-        record - %d: wrong kind\n\
-        record - %d: wrong data length\n\
-        record - %d: cut\n";
-    let state = r.state;
-    match state {
-        0 => Ok(()),
-        1 => called(to, number, r, out),
-        _ => print::line(
-            to,
-            piece(rows, state as usize, b'\n'),
-            &[number, 0, 0, 0],
-            rows,
-        ),
-    }
+    let wrong = match r.state {
+        0 => return Ok(()),
+        1 => return called(to, number, r, out),
+        2 => "wrong mark",
+        3 => "wrong kind",
+        4 => "wrong data length",
+        _ => "cut",
+    };
+    print::text(to, format_args!("record {number}: {wrong}"))
 }

@@ -9,13 +9,16 @@ use borrow.Rule.Slice.PartMut.{put_mid}
 use borrow.Author.Tests.{ne_eqb, lt-ltb, le-ltb}
 use lib.ListN.{length, take, drop}
 use lib.Seq.{length-take-le}
+use Rattle.refusal.specs.declared.Refusal.{Refusal}
+use Rattle.refusal.specs.Refusal.{refusal_number}
+use Rattle.refusal.proofs.Numbers.{number_above_none}
 use Rattle.header.specs.Edition.{Within}
 use Rattle.header.specs.Header.{header_of, header_octets}
 use Rattle.header.specs.declared.Header.{Header}
 use Rattle.chain.specs.Content.{chain_octets}
 use Rattle.store_rules.specs.Row.{Record, store_octets, size_of, row_of, wrong_store}
 use Rattle.responder_rules.specs.Answer.{Given, asking, saved_time, answer_header, sent_header, answer_fields, answer_octets, output_after, row_after, first_refusal, wrong_fresh, short_output, refused_answer, answer_refusal, outcome, answer_of}
-use Rattle.responder_rules.specs.declared.Answered.TheVariants.{Written, Refused}
+use Rattle.std.specs.Prelude.{Ok, Err}
 use Rattle.responder_rules.specs.Claim.{Accepted}
 use Rattle.responder_rules.proofs.Answers.{sent-within}
 use Rattle.responder_rules.proofs.Accepting.{answer-written, answer-refused}
@@ -24,17 +27,22 @@ module _ (g : Given) (store out : List ℕ) where
   abbrev fresh : Bool
   fresh = wrong_fresh (asking g) g.fresh_cookie (row_of store)
 
-  refused : (n : ℕ) → (n ≡ 0 → ⊥) → answer_refusal g store out ≡ n → outcome (Refused n) out store ≡ answer_of g store out
+  refused : (n : ℕ) → (n ≡ 0 → ⊥) → answer_refusal g store out ≡ n → outcome (Err n) out store ≡ answer_of g store out
   refused n z e = sym (answer-refused g store out (λ k. z (sym e ∙ k)) ∙ rw e)
 
   -- what the store, the arguments and the request are refused by
-  pub refused-first : {n : ℕ} → n ≡ cond (wrong_store store) 6 (first_refusal g) → (n ≡ 0 → ⊥) → outcome (Refused n) out store ≡ answer_of g store out
+  pub refused-first : (r : Refusal) → refusal_number r ≡ cond (wrong_store store) 6 (first_refusal g)
+      → outcome (Err (refusal_number r)) out store ≡ answer_of g store out
   unfolding answer_refusal
-  refused-first {n} e z = refused n z (by (wrong_store store) e)
+  refused-first r e = refused (refusal_number r) not_none (by (wrong_store store) e)
     where
-      by : (wrong : Bool) → n ≡ cond wrong 6 (first_refusal g) → refused_answer wrong (first_refusal g) fresh (short_output g out) ≡ n
+      not_none : refusal_number r ≡ 0 → ⊥
+      not_none q = let above = number_above_none r in omega arith
+
+      by : (wrong : Bool) → refusal_number r ≡ cond wrong 6 (first_refusal g)
+          → refused_answer wrong (first_refusal g) fresh (short_output g out) ≡ refusal_number r
       by true e = sym e
-      by false e = rw (← e, ne_eqb n 0 z)
+      by false e = rw (← e, ne_eqb (refusal_number r) 0 not_none)
 
   pub right-store : 0 ≡ cond (wrong_store store) 6 (first_refusal g) → wrong_store store ≡ false
   right-store e = by (wrong_store store) e
@@ -49,16 +57,16 @@ module _ (g : Given) (store out : List ℕ) where
       unfolding answer_refusal
       later = rw (right, z)
 
-      pub refused-fresh : fresh ≡ true → outcome (Refused 8) out store ≡ answer_of g store out
+      pub refused-fresh : fresh ≡ true → outcome (Err 8) out store ≡ answer_of g store out
       refused-fresh e = refused 8 (λ q. absurd (omega arith)) (later ∙ rw e)
 
       module _ (e : fresh ≡ false) where
-        pub refused-room : length out < length g.request → outcome (Refused 11) out store ≡ answer_of g store out
+        pub refused-room : length out < length g.request → outcome (Err 11) out store ≡ answer_of g store out
         refused-room h = refused 11 (λ q. absurd (omega arith)) (later ∙ rw (e, lt-ltb _ _ h))
 
         pub answered : length g.request ≤ length out → {o s : List ℕ} → o ≡ output_after g (row_of store) out
             → s ≡ store_octets (size_of store) (row_after (asking g) g.fresh_cookie (size_of store) (row_of store))
-            → outcome (Written (length g.request)) o s ≡ answer_of g store out
+            → outcome (Ok (length g.request)) o s ≡ answer_of g store out
         answered h p q = rw (p, q) (sym (answer-written g store out (later ∙ rw (e, le-ltb _ _ h))))
 
 -- a part of the output is lent, and comes back

@@ -26,7 +26,7 @@ pub(crate) fn time(store: &[u8], asked: Header) -> u64
 {
     if wants_interleaved(asked) {
         let at = store_row::find(store, asked.server_cookie);
-        return number::get64(store, at + 8);
+        return number::get::<u64>(store, at + 8);
     }
     0
 }

@@ -23,7 +23,7 @@ use Rattle.chain.specs.Field.{fields_of, fields_in, first_of}
 use Rattle.chain.specs.Content.{Content, chain_octets, AllFit, placed, contents_of}
 use Rattle.field_role.specs.Role.{role_of, SizeAllowed}
 use Rattle.chain.specs.declared.cursor.Field.{Field}
-use Rattle.chain.specs.declared.find.Occurrence.TheVariants.{Absent}
+use Rattle.std.specs.Prelude.{None}
 use Rattle.field_role.specs.declared.Role.TheVariants.{FilterRequest}
 use Rattle.chain.proofs.Datagrams.{header-passes, sound-datagram, fields-pass}
 use Rattle.field_role.proofs.Roles.{good-parts, size-allowed}
@@ -114,7 +114,7 @@ module _ (g : Given) (a : Accepted g) where
     answer-fields = fields-written (header_octets sent) (sent_fields g) 48 (length-header sent) fields_fit
 
     -- none of them is a MAC
-    pub answer-no-mac : first_of 0xF502 (fields_of (answer_octets g row)) ≡ Absent
+    pub answer-no-mac : first_of 0xF502 (fields_of (answer_octets g row)) ≡ None
     answer-no-mac = rw answer-fields (none-placed 0xF502 (sent_fields g) 48 no-mac)
 
     -- and so are their data

@@ -1,5 +1,5 @@
 -- The answer to a request, R-4 to R-20, in either edition, W204-13 to W204-15: its octets, and what it leaves in the store.
-use Rattle.std.specs.Prelude.{Bool, cond, not, ◌&&◌, ◌||◌, List, [], ◌∷◌, ◌++◌, ℕ, ◌+◌, ◌-◌, ◌*◌, ◌/◌, ◌%◌, eqb, ltb, length, take, drop, replicate, ℤ, pos}
+use Rattle.std.specs.Prelude.{Result, Ok, Err, Bool, cond, not, ◌&&◌, ◌||◌, List, [], ◌∷◌, ◌++◌, ℕ, ◌+◌, ◌-◌, ◌*◌, ◌/◌, ◌%◌, eqb, ltb, length, take, drop, replicate, ℤ, pos}
 use Rattle.header.specs.Edition.{is_edition, edition_of, over_limits, interleaved_bit, interleaved_flag}
 use Rattle.header.specs.Header.{header_of, header_octets}
 use Rattle.header.specs.declared.edition.Edition.{Edition}
@@ -14,8 +14,7 @@ use Rattle.field_role.specs.declared.Role.{Role}
 use Rattle.field_role.specs.declared.Role.TheVariants.{FilterRequest, Information, DraftName, Unknown}
 use Rattle.store_rules.specs.Row.{Record, held, time_of, without, joined, store_octets, size_of, row_of, wrong_store}
 use Rattle.responder_rules.specs.declared.Server.{Server}
-use Rattle.responder_rules.specs.declared.Answered.{Answered}
-use Rattle.responder_rules.specs.declared.Answered.TheVariants.{Written, Refused}
+use Rattle.responder_rules.specs.declared.Given as code
 
 -- R-4, W204-13: what an answer takes beside the store and the output
 pub record Given : Type 0 where
@@ -39,6 +38,10 @@ given request receive estimate fresh_cookie server filter information e = record
   filter = filter;
   information = information;
 }
+
+-- what the code is given, in an edition
+abbrev pub given_as : code.Given → Edition → Given
+given_as g e = given g.request.now g.receive g.estimate g.fresh_cookie.0 g.server g.filter.now g.information.now e
 
 -- the header of the request, read in the answer's edition
 abbrev pub asking : Given → Header
@@ -162,10 +165,10 @@ unfoldable pub answer_refusal : Given → (store out : List ℕ) → ℕ
 answer_refusal g store out =
     refused_answer (wrong_store store) (first_refusal g) (wrong_fresh (asking g) g.fresh_cookie (row_of store)) (short_output g out)
 
--- G-11: the number and value of each case of the call's answer
-abbrev pub numbers_of : Answered → ℕ × ℕ
-numbers_of (Written n) = (0, n)
-numbers_of (Refused n) = (n, 0)
+-- G-11: the refusal number and the number of octets that a call's answer says
+abbrev pub numbers_of : Result ℕ ℕ → ℕ × ℕ
+numbers_of (Ok n) = (0, n)
+numbers_of (Err n) = (n, 0)
 
 -- all that an answer returns and leaves
 pub record Outcome : Type 0 where
@@ -174,7 +177,7 @@ pub record Outcome : Type 0 where
   pub out : List ℕ
   pub store : List ℕ
 
-abbrev pub outcome : Answered → (out store : List ℕ) → Outcome
+abbrev pub outcome : Result ℕ ℕ → (out store : List ℕ) → Outcome
 outcome r out store = record { refusal = (numbers_of r).0; size = (numbers_of r).1; out = out; store = store }
 
 -- a refusal by N-27 and N-28
@@ -192,4 +195,4 @@ answer_of g store out =
 -- W204-1: where the edition is named by a number, and 6 for one that names none
 unfoldable pub answer_named : (edition : ℕ) → (Edition → Given) → (store out : List ℕ) → Outcome
 answer_named n g store out =
-    cond (is_edition n) (answer_of (g (edition_of n)) store out) (outcome (Refused 6) out store)
+    cond (is_edition n) (answer_of (g (edition_of n)) store out) (outcome (Err 6) out store)

@@ -1,6 +1,6 @@
 -- What holds of calls to which no refusal applies: of answers, D-4, and of reports, R-3. Each claim is about any responder,
 -- `EveryAnswerFor step` and so on, and made of ours, `EveryAnswer`; specs/Idle.antt has responders of which they are false.
-use Rattle.std.specs.Prelude.{◌≡◌, true, false, List, [], ℕ, ◌<◌, ◌≤◌, ◌^◌, length, take, drop}
+use Rattle.std.specs.Prelude.{◌≡◌, None, true, false, List, [], ℕ, ◌<◌, ◌≤◌, ◌^◌, length, take, drop}
 use Rattle.std.specs.Int.{w8, w16}
 use Rattle.std.proofs.Common.{SFits}
 use Rattle.octets.specs.Number.{Octets}
@@ -11,7 +11,6 @@ use Rattle.chain.specs.Field.{fields_of, first_of}
 use Rattle.chain.specs.Content.{placed, contents_of}
 use Rattle.field_role.specs.Role.{role_of}
 use Rattle.chain.specs.declared.cursor.Field.{Field}
-use Rattle.chain.specs.declared.find.Occurrence.TheVariants.{Absent}
 use Rattle.field_role.specs.declared.Role.TheVariants.{FilterRequest}
 use Rattle.store_rules.specs.Row.{Record, held, time_of, with_time, store_octets, size_of, row_of, wrong_store}
 use Rattle.responder_rules.specs.Answer.{Given, Outcome, asking, wants_interleaved, sent_header, sent_fields, row_after}
@@ -66,7 +65,7 @@ pub record AnswerClaim (g : Given) (row : List Record) (sent : List ℕ) : Type 
   -- their types and data are those of R-16 to R-20
   pub contents : contents_of sent (fields_of sent) ≡ sent_fields g
   -- W205-9: none of them is a MAC
-  pub no-mac : first_of 0xF502 (fields_of sent) ≡ Absent
+  pub no-mac : first_of 0xF502 (fields_of sent) ≡ None
   -- R-17: a filter response is as long as the filter request that it answers
   pub responses : (before : List Field) (f : Field) (offset : ℕ) → role_of g.request before f ≡ FilterRequest offset
       → length (take f.size (drop offset g.filter)) ≡ f.size

@@ -1,6 +1,8 @@
 // The answer, R-4 to R-20: specs/ defines it and says what holds of it, proofs/ that it does. There is no code, only the answer's types.
 #![tactic(auto)]
 
+use header::ServerCookie;
+
 // R-4: what a server says of its clock in every answer.
 #[repr(C)]
 #[derive(Clone, Copy)]
@@ -18,9 +20,15 @@ pub struct Server {
     pub root_dispersion: u32,
 }
 
+// R-4: what an answer takes beside the edition, the store and the output. `fresh_cookie` is looked at only where the request wants an
+// interleaved answer (R-7, R-8).
 #[derive(Clone, Copy)]
-pub enum Answered {
-    // So many octets were written, as many as the request has.
-    Written(u16),
-    Refused(u8),
+pub struct Given<'a> {
+    pub request: &'a [u8],
+    pub receive: u64,
+    pub estimate: u64,
+    pub fresh_cookie: ServerCookie,
+    pub server: Server,
+    pub filter: &'a [u8],
+    pub information: &'a [u8],
 }

@@ -1,46 +1,19 @@
 -- Looking for a row, and for the first wrong word. Assumes nothing.
-use mathlib.Core.Path.{◌≡◌, ◌∙◌}
-use mathlib.Core.Bool.{true, false, ◌||◌}
+use mathlib.Core.Path.{◌≡◌, refl, sym, ap, ◌∙◌}
+use Rattle.std.proofs.Common.{Option, Some, None, Result, Err}
+use Rattle.words.proofs.Problems.{some_problem}
+use Rattle.words.specs.Wrong.{problem_number}
+use Rattle.rows.specs.declared.Fault.{Fault}
+use Rattle.rows.specs.Answers.{some_row, with_call, told, outcome_as, called}
+use mathlib.Core.Bool.{Bool, true, false, cond}
 use mathlib.Core.List.{List}
-use mathlib.Core.Logic.{◌⊎◌, ⊎_elim}
 use Prim.Native.Nat.{ℕ, zero, suc, ◌+◌, ◌-◌, ◌<◌, ◌≤◌}
 use native.Mathlib.Omega.{arith}
-use borrow.Author.Tests.{eq-eqb, ne_eqb, lt-ltb, le-ltb}
+use borrow.Author.Tests.{eq-eqb, eqb-true, eqb-false, ne_eqb, lt-ltb, le-ltb}
 use lib.Dec.{eqb}
 use lib.ListN.{length}
-use Rattle.words.specs.Numeral.{word_value}
 use Rattle.text.specs.Place.{part_of, piece_of, same_of}
-use Rattle.rows.specs.declared.Found.{Found}
-use Rattle.rows.specs.Rows.{found, mode_problem, octets_problem, problem_of, problem_at, fault_from, fault_of, row_from, row_number, found_at, found_of, call_in, call_number}
-
--- WHAT IS WRONG WITH A WORD
-
-module _ (letter : ℕ) (word : List ℕ) where
-  pub problem-none : (eqb letter 0 || eqb letter 45) ≡ true → length word ≡ 0 → 0 ≡ problem_of letter word
-  unfolding problem_of
-  problem-none e h = rw (e, h)
-
-  pub problem-over : (eqb letter 0 || eqb letter 45) ≡ true → (length word ≡ 0 → ⊥) → 3 ≡ problem_of letter word
-  unfolding problem_of
-  problem-over e h = rw (e, ne_eqb (length word) 0 h)
-
-  module _ (e : (eqb letter 0 || eqb letter 45) ≡ false) where
-    pub problem-missing : length word ≡ 0 → 2 ≡ problem_of letter word
-    unfolding problem_of
-    problem-missing h = rw (e, h)
-
-    module _ (h : length word ≡ 0 → ⊥) where
-      pub problem-mode : letter ≡ 109 → mode_problem word ≡ problem_of letter word
-      unfolding problem_of
-      problem-mode k = rw (e, ne_eqb (length word) 0 h, eq-eqb letter 109 k)
-
-      pub problem-octets : (letter ≡ 73) ⊎ (letter ≡ 79) → octets_problem word ≡ problem_of letter word
-      unfolding problem_of
-      problem-octets = ⊎_elim (λ k. rw (e, ne_eqb (length word) 0 h, k)) (λ k. rw (e, ne_eqb (length word) 0 h, k))
-
-      pub problem-number : (letter ≡ 109 → ⊥) → (letter ≡ 73 → ⊥) → (letter ≡ 79 → ⊥) → (word_value letter word).problem ≡ problem_of letter word
-      unfolding problem_of
-      problem-number k l m = rw (e, ne_eqb (length word) 0 h, ne_eqb letter 109 k, ne_eqb letter 73 l, ne_eqb letter 79 m)
+use Rattle.rows.specs.Rows.{found, problem_at, fault_from, fault_of, row_from, row_number, found_at, found_of, call_number}
 
 -- THE FIRST WRONG WORD
 
@@ -77,39 +50,65 @@ module _ (rows name : List ℕ) (k : ℕ) where
   unfolding row_from
   row-none n h = rw h
 
+-- a row is one before the end
+pub is_row : (k n : ℕ) → Some k ≡ some_row n → (k ≡ n) × (n ≡ 64 → ⊥)
+is_row k n h = go (eqb n 64) refl h
+  where
+    go : (b : Bool) → eqb n 64 ≡ b → Some k ≡ cond b None (Some n) → (k ≡ n) × (n ≡ 64 → ⊥)
+    go true e f = cc
+    go false e f = (cc, eqb-false n 64 e)
+
+pub no_row : (n : ℕ) → None ≡ some_row n → n ≡ 64
+no_row n h = go (eqb n 64) refl h
+  where
+    go : (b : Bool) → eqb n 64 ≡ b → None ≡ cond b None (Some n) → n ≡ 64
+    go true e f = eqb-true n 64 e
+    go false e f = cc
+
+pub row_as : (k n : ℕ) → n < 64 → k ≡ n → Some k ≡ some_row n
+row_as k n h e = rw (ne_eqb n 64 (λ (z : n ≡ 64). omega arith), e)
+
 -- THE CALL OF A LINE
 
 module _ (rows line name : List ℕ) (e : name ≡ piece_of line 0 32) where
-  pub find_none : length name ≡ 0 → found 64 0 0 ≡ found_of rows line
+  pub find_none : length name ≡ 0 → (None, (0, 0)) ≡ told (found_of rows line)
   unfolding found_of
   find_none h = rw (← e, h)
 
-  module _ (h : length name ≡ 0 → ⊥) (call : ℕ) (f : call ≡ row_number rows name) where
-    find_at : found_at call rows line ≡ found_of rows line
+  module _ (h : length name ≡ 0 → ⊥) where
+    find_at : found_at (row_number rows name) rows line ≡ found_of rows line
     unfolding found_of
-    find_at = rw (← e, ne_eqb (length name) 0 h, f)
+    find_at = rw (← e, ne_eqb (length name) 0 h)
 
-    pub find-unknown : call ≡ 64 → found 64 1 1 ≡ found_of rows line
-    find-unknown k = rw (eq-eqb call 64 k) at find_at
+    pub find-unknown : None ≡ some_row (row_number rows name) → (None, (1, 1)) ≡ told (found_of rows line)
+    find-unknown k = ap told (rw (no_row _ k) at find_at)
 
-    pub find-known : (call ≡ 64 → ⊥) → (row signature : List ℕ) → row ≡ piece_of rows call 10 → signature ≡ piece_of row 1 32
-        → fault_of call line signature ≡ found_of rows line
-    find-known k row signature g l =
-        let z : fault_of call line signature ≡ found_at call rows line = rw (ne_eqb call 64 k, l, g) in
-        z ∙ find_at
+    module _ (call : ℕ) (k : Some call ≡ some_row (row_number rows name)) (row signature : List ℕ) (g : row ≡ piece_of rows call 10)
+        (l : signature ≡ piece_of row 1 32) where
+      known : fault_of call line signature ≡ found_of rows line
+      known =
+          let z = is_row _ _ k in
+          let y : fault_of call line signature ≡ found_at (row_number rows name) rows line = rw (← z.0, ne_eqb call 64 (λ x. z.1 (sym z.0 ∙ x)), l, g) in
+          y ∙ find_at
+
+      pub find-known : found call 0 0 ≡ fault_of call line signature → (Some call, (0, 0)) ≡ told (found_of rows line)
+      find-known f =
+          let z = is_row _ _ k in
+          let y : (Some call, (0, 0)) ≡ told (found call 0 0) = rw (ne_eqb call 64 (λ x. z.1 (sym z.0 ∙ x))) in
+          y ∙ ap told (f ∙ known)
+
+      pub find-fault : (fault : Fault) → with_call call (Err fault) ≡ fault_of call line signature
+          → (None, (fault.word, problem_number fault.problem)) ≡ told (found_of rows line)
+      find-fault fault f =
+          let y : (None, (fault.word, problem_number fault.problem)) ≡ told (with_call call (Err fault)) = rw (ne_eqb (problem_number fault.problem) 0 (some_problem fault.problem)) in
+          y ∙ ap told (f ∙ known)
 
 module _ (rows line : List ℕ) (n : ℕ) where
-  pub call_long : length line < n → 64 ≡ call_number rows line n
+  pub call_long : length line < n → None ≡ some_row (call_number rows line n)
   unfolding call_number
   call_long h = rw (lt-ltb (length line) n h)
 
-  module _ (h : n ≤ length line) (s : List ℕ) (e : s ≡ part_of line 0 n) (f : Found) (g : f ≡ found_of rows s) where
-    call_at : call_in f ≡ call_number rows line n
-    unfolding call_number
-    call_at = rw (le-ltb (length line) n h, g, e)
-
-    pub call-wrong : (f.problem ≡ 0 → ⊥) → 64 ≡ call_number rows line n
-    call-wrong k = let z : 64 ≡ call_in f = rw (ne_eqb f.problem 0 k) in z ∙ call_at
-
-    pub call-right : f.problem ≡ 0 → f.call ≡ call_number rows line n
-    call-right k = let z : f.call ≡ call_in f = rw k in z ∙ call_at
+  pub call_at : n ≤ length line → (s : List ℕ) → s ≡ part_of line 0 n → (r : Result (Option ℕ) Fault) → outcome_as r ≡ told (found_of rows s)
+      → called r ≡ some_row (call_number rows line n)
+  unfolding call_number
+  call_at h s e r f = rw (le-ltb (length line) n h, ← e) (ap (λ (w : Option ℕ × (ℕ × ℕ)). w.0) f)

@@ -1,2 +1,3 @@
 -- Which call a line is.
 pub mod Rows
+pub mod Answers

@@ -4,7 +4,12 @@ use Rattle.octets.specs.Number.{get_at}
 use Rattle.words.specs.Numeral.{word_value}
 use Rattle.words.specs.OctetWord.{write_of}
 use Rattle.text.specs.Place.{part_of, piece_of, same_of}
-use Rattle.rows.specs.declared.Found.{Found}
+
+-- the number of a line's call, from 0 on; and what is wrong with which word of the line, counted from 1
+pub record Found : Type 0 where
+  pub call : ℕ
+  pub word : ℕ
+  pub problem : ℕ
 
 -- a call's number, and what is wrong with which word, counted from 1
 abbrev pub found : ℕ → ℕ → ℕ → Found

@@ -9,137 +9,141 @@
 //   O            octets that the call may change, at most one word of a call
 #![tactic(auto)]
 
-ghost use Rattle.std.specs.Prelude.{◌≡◌, IfOk};
+ghost use Rattle.std.specs.Prelude.{◌≡◌, ℕ, IfOk};
 ghost use Rattle.rows.specs.Rows.{mode_problem, octets_problem, problem_of, row_number, fault_of, found_of, call_number};
+ghost use Rattle.rows.specs.Answers.{outcome_problem, some_row, with_call, outcome_as, told, called};
 
-use octets::number::get8;
-use std::io;
+use octets::number::get;
 use std::io::Write;
+use std::{fmt, io};
 use text::{part, piece, same};
 use words::number::read;
 use words::octet_word::write;
+use words::problem::Problem;
 
-// What can be wrong with a line, besides what text says of numbers and octets, 4 to 8: the numbers of the rows in
-// `print::problem`. 0 is nothing.
-const UNKNOWN_CALL: u8 = 1;
+// How many rows are looked at.
+const ROWS: usize = 64;
 
-const MISSING: u8 = 2;
-
-const LEFT_OVER: u8 = 3;
-
-const TOO_LONG: u8 = 9;
-
-const NO_MODE: u8 = 10;
-
-// The number of no row: further ones are not looked at.
-pub const NONE: usize = 64;
-
-// The number of a line's call, from 0 on; and what is wrong with which word of the line, counted from 1.
+// What is wrong with which word of a line, counted from 1.
 #[derive(Clone, Copy)]
-struct Found {
-    call: usize,
+struct Fault {
     word: usize,
-    problem: u8,
+    problem: Problem,
 }
 
-fn mode_problem(word: &[u8]) -> u8
-    ensures { result ≡ mode_problem word.now }
+impl fmt::Display for Fault {
+    fn fmt<W: fmt::Write>(&self, f: &mut fmt::Formatter<W>) -> fmt::Result {
+        let word = self.word;
+        let problem = self.problem;
+        match problem {
+            Problem::TooLong => write!(f, "{problem}"),
+            _ => write!(f, "word {word}: {problem}"),
+        }
+    }
+}
+
+#[tactic(auto, unfolding(crate::specs::Rows::mode_problem))]
+fn check_mode(word: &[u8]) -> Result<(), Problem>
+    ensures { outcome_problem result ≡ mode_problem word.now }
 {
     if same(word, b"basic") | same(word, b"interleaved") {
-        return 0;
+        return Ok(());
     }
-    NO_MODE
+    Err(Problem::NoMode)
 }
 
 // The octets go to no buffer: only what is wrong with them is asked.
-fn octets_problem(word: &[u8]) -> u8
-    ensures { result ≡ octets_problem word.now }
+#[tactic(auto, unfolding(crate::specs::Rows::octets_problem))]
+fn check_octets(word: &[u8]) -> Result<(), Problem>
+    ensures { outcome_problem result ≡ octets_problem word.now }
 {
-    let written = write(word, &mut []);
-    written.problem
+    match write(word, &mut []) {
+        Ok(_) => Ok(()),
+        Err(wrong) => Err(wrong.problem),
+    }
 }
 
 // What is wrong with a word for this letter; where there is no letter, a word is left over.
-fn problem_of(word: &[u8], letter: u8) -> u8
-    ensures { result ≡ problem_of letter word.now }
+#[tactic(auto, unfolding(crate::specs::Rows::problem_of))]
+fn check_word(word: &[u8], letter: u8) -> Result<(), Problem>
+    ensures { outcome_problem result ≡ problem_of letter word.now }
 {
     if (letter == 0) | (letter == b'-') {
-        if word.len() == 0 {
-            return 0;
+        if word.is_empty() {
+            return Ok(());
         }
-        return LEFT_OVER;
+        return Err(Problem::LeftOver);
     }
-    if word.len() == 0 {
-        return MISSING;
+    if word.is_empty() {
+        return Err(Problem::Missing);
     }
     match letter {
-        b'm' => mode_problem(word),
-        b'I' | b'O' => octets_problem(word),
-        _ => {
-            let value = read(word, letter);
-            value.problem
-        }
+        b'm' => check_mode(word),
+        b'I' | b'O' => check_octets(word),
+        _ => match read(word, letter) {
+            Ok(_) => Ok(()),
+            Err(wrong) => Err(wrong.problem),
+        },
     }
 }
 
 // The words are looked at up to the first that is wrong, and one past the last letter.
-fn check(call: usize, line: &[u8], signature: &[u8]) -> Found
-    ensures { result ≡ fault_of call line.now signature.now }
+fn check(line: &[u8], signature: &[u8]) -> Result<(), Fault>
+    ensures { (call : ℕ) → with_call call result ≡ fault_of call line.now signature.now }
 {
-    let mut i: usize = 0;
-    while i <= signature.len() {
-        let problem = problem_of(piece(line, i + 1, b' '), get8(signature, i));
-        if problem != 0 {
-            return Found {
-                call: call,
+    for i in 0..signature.len() + 1 {
+        let word = piece(line, i + 1, b' ');
+        if let Err(problem) = check_word(word, get(signature, i)) {
+            return Err(Fault {
                 word: i + 2,
-                problem: problem,
-            };
+                problem,
+            });
         }
-        i += 1;
     }
-    Found {
-        call: call,
-        word: 0,
-        problem: 0,
-    }
+    Ok(())
 }
 
 // The number of the row with this name.
-fn look_up(rows: &[u8], name: &[u8]) -> usize
-    ensures { result ≡ row_number rows.now name.now }
+fn look_up(rows: &[u8], name: &[u8]) -> Option<usize>
+    ensures { result ≡ some_row (row_number rows.now name.now) }
 {
-    let mut k: usize = 0;
-    while k < NONE {
+    for k in 0..ROWS {
         if same(piece(piece(rows, k, b'\n'), 0, b' '), name) {
-            return k;
+            return Some(k);
         }
-        k += 1;
     }
-    NONE
+    None
 }
 
 // The call of a line, or what is wrong with it. A line with no word is no call, and nothing is wrong with it.
-fn find(rows: &[u8], line: &[u8]) -> Found
-    ensures { result ≡ found_of rows.now line.now }
+fn find(rows: &[u8], line: &[u8]) -> Result<Option<usize>, Fault>
+    ensures { outcome_as result ≡ told (found_of rows.now line.now) }
 {
     let name = piece(line, 0, b' ');
-    if name.len() == 0 {
-        return Found {
-            call: NONE,
-            word: 0,
-            problem: 0,
-        };
+    if name.is_empty() {
+        return Ok(None);
     }
-    let call = look_up(rows, name);
-    if call == NONE {
-        return Found {
-            call: NONE,
+    let Some(call) = look_up(rows, name) else {
+        return Err(Fault {
             word: 1,
-            problem: UNKNOWN_CALL,
-        };
+            problem: Problem::UnknownCall,
+        });
+    };
+    check(line, piece(piece(rows, call, b'\n'), 1, b' '))?;
+    Ok(Some(call))
+}
+
+// The same of the line of this length, which may be more than there is room for.
+fn find_within(rows: &[u8], line: &[u8], length: usize) -> Result<Option<usize>, Fault>
+    ensures { called result ≡ some_row (call_number rows.now line.now length) }
+{
+    if length > line.len() {
+        return Err(Fault {
+            word: 0,
+            problem: Problem::TooLong,
+        });
     }
-    check(call, line, piece(piece(rows, call, b'\n'), 1, b' '))
+    find(rows, part(line, 0, length))
 }
 
 // The call of the line of this length and number. What is wrong with a line is printed, and the line is then no call.
@@ -149,17 +153,14 @@ pub fn call_of<W: Write>(
     line: &[u8],
     length: usize,
     number: u64,
-) -> io::Result<usize>
-    ensures { IfOk result (λ call. call ≡ call_number rows.now line.now length) }
+) -> io::Result<Option<usize>>
+    ensures { IfOk result (λ call. call ≡ some_row (call_number rows.now line.now length)) }
 {
-    if length > line.len() {
-        print::problem(to, number, 0, TOO_LONG)?;
-        return Ok(NONE);
+    match find_within(rows, line, length) {
+        Ok(call) => Ok(call),
+        Err(fault) => {
+            print::text(to, format_args!("line {number}: {fault}"))?;
+            Ok(None)
+        }
     }
-    let found = find(rows, part(line, 0, length));
-    if found.problem != 0 {
-        print::problem(to, number, found.word, found.problem)?;
-        return Ok(NONE);
-    }
-    Ok(found.call)
 }

@@ -7,13 +7,13 @@ use lib.Dec.{eqb, ltb}
 use lib.ListN.{length}
 use Rattle.header.specs.Edition.{is_edition, edition_of, over_limits}
 use Rattle.header.specs.Header.{header_of, reading, written, read_named, written_named}
-use Rattle.header.specs.declared.Reading.{Reading}
+use Rattle.header.specs.declared.Header.{Header}
+use Rattle.std.specs.Prelude.{Result}
 use Rattle.octets.specs.Among.{among}
 use Rattle.header.proofs.Refusals.{header-number}
 use Rattle.chain.proofs.Refusals.{sound-number}
 use Rattle.filter_rules.specs.Calls.{is_filter, is_id}
 use Rattle.filter_weight.specs.Weighing.{numbers}
-use Rattle.filter_weight.specs.declared.Weighing.{Weighing}
 use Rattle.single_rules.specs.Single.{Call, header_read, header_write, sound, filter_add, filter_union, filter_weight, lent, Answer, plain_answer, read_answer, output_answer, weight_answer}
 use Rattle.single_rules.specs.Refused.{refusals_of, RefusedCall, Refusals}
 
@@ -36,7 +36,7 @@ pub refusals : Refusals
 unfolding written read_named written_named
 refusals (header_read n s wanted) =
     let c = header_read n s wanted in
-    either (λ (r : Reading). IfRefused c (read_answer r)) (is_edition n)
+    either (λ (r : Result Header ℕ). IfRefused c (read_answer r)) (is_edition n)
     (header-number (λ k. IfRefused c (read_answer (reading k (header_of (edition_of n) s)))) (accepted c _ refl) (refused c 1 refl) (refused c 2 refl) (refused c 3 refl) s wanted)
     (refused c 6 refl)
 refusals (header_write n h out) =
@@ -58,4 +58,4 @@ refusals (filter_union into other) =
     either (λ (w : ℕ × List ℕ). IfRefused c (output_answer w)) (is_filter into && is_filter other) (accepted c _ refl) (refused c 6 refl)
 refusals (filter_weight filter) =
     let c = filter_weight filter in
-    either (λ (w : Weighing). IfRefused c (weight_answer (numbers w))) (is_filter filter) (accepted c _ refl) (refused c 6 refl)
+    either (λ (w : Result ℕ ℕ). IfRefused c (weight_answer (numbers w))) (is_filter filter) (accepted c _ refl) (refused c 6 refl)

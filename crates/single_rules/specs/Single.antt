@@ -1,11 +1,9 @@
 -- The calls on one datagram or one filter as one step, by the definitions that their contracts cite. The measurement is not among them:
 -- it has no refusal.
-use Rattle.std.specs.Prelude.{List, [], ℕ}
+use Rattle.std.specs.Prelude.{List, [], ℕ, Result, Ok, Err}
 use Rattle.std.proofs.Math.Option.{Option, none, some}
 use Rattle.header.specs.Header.{read_named, written_named}
 use Rattle.header.specs.declared.Header.{Header}
-use Rattle.header.specs.declared.Reading.{Reading}
-use Rattle.header.specs.declared.Reading.TheVariants.{Fields, Refused}
 use Rattle.chain.specs.Chain.{sound_refusal}
 use Rattle.filter_rules.specs.Calls.{add_id, unite}
 use Rattle.filter_weight.specs.Weighing.{weighing, numbers}
@@ -40,9 +38,9 @@ abbrev pub plain_answer : ℕ → List ℕ → Answer
 plain_answer n l = record { refusal = n; fields = none; weight = 0; left = l }
 
 -- the case of a refusal carries its number alone
-abbrev pub read_answer : Reading → Answer
-read_answer (Fields h) = record { refusal = 0; fields = some h; weight = 0; left = [] }
-read_answer (Refused n) = plain_answer n []
+abbrev pub read_answer : Result Header ℕ → Answer
+read_answer (Ok h) = record { refusal = 0; fields = some h; weight = 0; left = [] }
+read_answer (Err n) = plain_answer n []
 
 abbrev pub output_answer : ℕ × List ℕ → Answer
 output_answer w = plain_answer w.0 w.1

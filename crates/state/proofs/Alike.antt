@@ -9,11 +9,11 @@ use lib.Dec.{eqb}
 use lib.ListN.{length, take, drop}
 use Rattle.octets.specs.Part.{has_room, copy_at}
 use Rattle.exchange.specs.Judging.{outcome_of}
-use Rattle.exchange.specs.declared.response.Response.{Response}
+use Rattle.exchange.specs.Response.{Response}
 use Rattle.exchange.proofs.Alike.{starting_at, Alike}
 use Rattle.state.specs.Plain.{Opened, Outstanding, Place, closed, opened, received, on_request, reply_of, refuse_at, place_do}
-use Rattle.state.specs.declared.event.Event.TheVariants.{Receive}
-use Rattle.state.specs.declared.event.Reply.{Reply}
+use Rattle.state.specs.Event.{Receive}
+use Rattle.state.specs.Reply.{Reply}
 
 -- a copy is by the octets that are copied
 copies-alike : (f : List ℕ) (to : ℕ) (s t : List ℕ) (from from' n : ℕ) → from + n ≤ length s → from' + n ≤ length t

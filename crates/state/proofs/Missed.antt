@@ -10,7 +10,7 @@ use lib.Dec.{eqb, ltb}
 use Rattle.octets.proofs.Tests.{by-test}
 use Rattle.header.specs.declared.edition.Edition.{Edition}
 use Rattle.exchange.specs.Judging.{outcome_of}
-use Rattle.exchange.specs.declared.response.Response.{Response}
+use Rattle.exchange.specs.Response.{Response}
 use Rattle.state.specs.Plain.{Outstanding, Opened, newly_opened, missed_counted, saved_server, sent_cookie, polled, reported, received}
 
 -- so many polls were accepted since; the server cookie is that of the last accepted response since the opening, or 0

@@ -9,9 +9,8 @@ use Rattle.octets.proofs.Tests.{by-test}
 use Rattle.poll_request.specs.Request.{poll_length}
 use Rattle.state.specs.Rules.{openable}
 use Rattle.state.specs.Plain.{Outstanding, Place, closed, opened, is_last, on_request, place_do}
-use Rattle.state.specs.declared.event.Event.{Event}
-use Rattle.state.specs.declared.event.Event.TheVariants.{Open, Close, Poll, Sent, Receive, Look}
-use Rattle.state.specs.declared.event.Reply.{Reply}
+use Rattle.state.specs.Event.{Event, Open, Close, Poll, Sent, Receive, Look}
+use Rattle.state.specs.Reply.{Reply}
 
 -- by the outstanding request, or its absence
 pub by-request : (P : Reply × Place → Type 0) (q : Option Outstanding) {absent : Reply × Place} (f : Outstanding → Reply × Place)

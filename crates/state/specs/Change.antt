@@ -5,12 +5,16 @@ use Rattle.state.specs.Rules.{plain_reply}
 use Rattle.state.specs.Plain.{Place, place_filter, place_do}
 use Rattle.state.specs.Range.{in_range}
 use Rattle.state.specs.Numbers.{place_in, place_head}
-use Rattle.state.specs.declared.event.Event.{Event}
-use Rattle.state.specs.declared.event.Reply.{Reply}
+use Rattle.state.specs.Event.{Event}
+use Rattle.state.specs.Reply.{Reply}
 use Rattle.state.specs.declared.head.Head.{Head}
 use Rattle.state.specs.declared.head.Filling.{Filling}
 use Rattle.state.specs.declared.head.Filling.TheVariants.{Keep, Clear, Take}
-use Rattle.state.specs.declared.head.Change.{Change}
+
+pub record Change : Type 0 where
+  pub reply : Reply
+  pub head : Head
+  pub filling : Filling
 
 abbrev pub change : Reply → Head → Filling → Change
 change a h f = record { reply = a; head = h; filling = f }

@@ -2,43 +2,44 @@
 #![tactic(auto)]
 
 ghost use Rattle.std.specs.Prelude.{◌≡◌};
+ghost use Rattle.refusal.specs.Refusal.{outcome_number};
 ghost use Rattle.store_rules.specs.Row.{cleared, reporting};
 
 use header::ServerCookie;
-use octets::{number, part};
+use octets::number;
+use refusal::Refusal;
 
-pub fn clear(store: &mut [u8]) -> u8
-    ensures { (result, store.new) ≡ cleared store.old }
+pub fn clear(store: &mut [u8]) -> Result<(), Refusal>
+    ensures { (outcome_number result, store.new) ≡ cleared store.old }
 {
     if store_check::wrong_size(store) {
-        return 6;
+        return Err(Refusal::BadArgument);
     }
-    let n = store.len();
-    part::zero(store, 0, n);
-    0
+    store.fill(0);
+    Ok(())
 }
 
 // R-3.
-pub fn report(store: &mut [u8], cookie: ServerCookie, time: u64) -> u8
-    ensures { (result, store.new) ≡ reporting store.old cookie.0 time }
+pub fn report(store: &mut [u8], cookie: ServerCookie, time: u64) -> Result<(), Refusal>
+    ensures { (outcome_number result, store.new) ≡ reporting store.old cookie.0 time }
 {
     if store_check::wrong(store) {
-        return 6;
+        return Err(Refusal::BadArgument);
     }
     if time == 0 {
-        return 6;
+        return Err(Refusal::BadArgument);
     }
     // An unused record has cookie 0 too.
     if cookie.0 == 0 {
-        return 12;
+        return Err(Refusal::NotStored);
     }
     let at = store_row::find(store, cookie);
     if at >= store.len() {
-        return 12;
+        return Err(Refusal::NotStored);
     }
-    if number::get64(store, at + 8) != 0 {
-        return 12;
+    if number::get::<u64>(store, at + 8) != 0 {
+        return Err(Refusal::NotStored);
     }
-    number::put64(store, at + 8, time);
-    0
+    number::put(store, at + 8, time);
+    Ok(())
 }

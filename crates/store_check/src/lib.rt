@@ -5,7 +5,7 @@ ghost use Rattle.std.specs.Prelude.{◌≡◌, ◌+◌, ◌-◌, ◌/◌, ◌%�
 ghost use Rattle.octets.specs.Number.{num};
 ghost use Rattle.store_rules.specs.Row.{held, records_from, all_unused, wrong_size, wrong_store};
 
-use octets::{number, part};
+use octets::number;
 
 // N-10, by R-1.
 pub fn wrong_size(store: &[u8]) -> bool
@@ -17,39 +17,37 @@ pub fn wrong_size(store: &[u8]) -> bool
 
 // Whether all records from a place on are unused.
 fn unused_from(store: &[u8], from: usize) -> bool
-    requires { (from % 16 ≡ 0) × (from ≤ length store.now) × (length store.now % 16 ≡ 0) }
+    requires { from ≤ length store.now }
     ensures { result ≡ all_unused (records_from ((length store.now - from) / 16) store.now from) }
 {
-    let mut at = from;
-    while at < store.len() {
-        if (number::get64(store, at) != 0) | (number::get64(store, at + 8) != 0) {
+    for record in store[from..].chunks_exact(16) {
+        if (number::get::<u64>(record, 0) != 0) | (number::get::<u64>(record, 8) != 0) {
             return false;
         }
-        at += 16;
     }
     true
 }
 
 // Whether the four octets at two places are the same. Octet by octet compiles to one comparison; numbers would be turned round first.
-fn same_half(store: &[u8], a: usize, b: usize) -> bool
-    requires { (a + 4 ≤ length store.now) × (b + 4 ≤ length store.now) }
-    ensures { result ≡ eqb (num store.now a 4) (num store.now b 4) }
+fn same_half(a: &[u8], b: &[u8], at: usize) -> bool
+    requires { (at + 4 ≤ length a.now) × (at + 4 ≤ length b.now) }
+    ensures { result ≡ eqb (num a.now at 4) (num b.now at 4) }
 {
-    (store[a] == store[b])
-        & (store[a + 1] == store[b + 1])
-        & (store[a + 2] == store[b + 2])
-        & (store[a + 3] == store[b + 3])
+    (a[at] == b[at])
+        & (a[at + 1] == b[at + 1])
+        & (a[at + 2] == b[at + 2])
+        & (a[at + 3] == b[at + 3])
 }
 
 // Whether two records have the same cookie.
-fn same_cookie(store: &[u8], a: usize, b: usize) -> bool
-    requires { (a + 8 ≤ length store.now) × (b + 8 ≤ length store.now) }
-    ensures { result ≡ eqb (num store.now a 8) (num store.now b 8) }
+fn same_cookie(a: &[u8], b: &[u8]) -> bool
+    requires { (8 ≤ length a.now) × (8 ≤ length b.now) }
+    ensures { result ≡ eqb (num a.now 0 8) (num b.now 0 8) }
 {
-    same_half(store, a, b) & same_half(store, a + 4, b + 4)
+    same_half(a, b, 0) & same_half(a, b, 4)
 }
 
-// Whether the four octets at a place are 0.
+// Whether the four octets at a place are 0, octet by octet too.
 fn zero_half(store: &[u8], at: usize) -> bool
     requires { at + 4 ≤ length store.now }
     ensures { result ≡ eqb (num store.now at 4) 0 }
@@ -70,12 +68,10 @@ fn held_later(store: &[u8], at: usize) -> bool
     requires { at + 16 ≤ length store.now }
     ensures { result ≡ held (num store.now at 8) (records_from ((length store.now - (at + 16)) / 16) store.now (at + 16)) }
 {
-    let mut i = at + 16;
-    while part::has_room(store, i, 16) {
-        if same_cookie(store, i, at) {
+    for later in store[at + 16..].chunks_exact(16) {
+        if same_cookie(later, &store[at..]) {
             return true;
         }
-        i += 16;
     }
     false
 }
@@ -87,16 +83,13 @@ pub fn wrong(store: &[u8]) -> bool
     if wrong_size(store) {
         return true;
     }
-    let n = store.len();
-    let mut at = 0;
-    while at < n {
+    for at in (0..store.len()).step_by(16) {
         if no_cookie(store, at) {
             return !unused_from(store, at);
         }
         if held_later(store, at) {
             return true;
         }
-        at += 16;
     }
     false
 }

@@ -1,8 +1,7 @@
 // The row's records by their places in the octets. Each function takes any octets.
 #![tactic(auto)]
 
-ghost use Rattle.std.specs.Prelude.{◌≡◌, ◌+◌, ◌-◌, ◌≤◌, length, drop};
-ghost use Rattle.std.proofs.Math.Seq.{paste};
+ghost use Rattle.std.specs.Prelude.{◌≡◌};
 ghost use Rattle.store_rules.specs.Place.{place_of, removed, joined_octets};
 
 use header::ServerCookie;
@@ -13,9 +12,9 @@ pub fn find(store: &[u8], cookie: ServerCookie) -> usize
     ensures { result ≡ place_of store.now cookie.0 }
 {
     let mut at = 0;
-    while part::has_room(store, at, 16) {
-        if number::get64(store, at) == cookie.0 {
-            return at;
+    for record in store.chunks_exact(16) {
+        if number::get::<u64>(record, 0) == cookie.0 {
+            break;
         }
         at += 16;
     }
@@ -28,20 +27,8 @@ pub fn remove(store: &mut [u8], at: usize)
 {
     if part::has_room(store, at, 16) {
         let last = store.len() - 16;
-        shift(store, at, last);
-        part::zero(store, last, 16);
-    }
-}
-
-// The octets from at + 16 on move to at.
-fn shift(store: &mut [u8], at: usize, last: usize)
-    requires { (at ≤ last) × (last + 16 ≡ length store.old) }
-    ensures { store.new ≡ paste store.old at (drop (at + 16) store.old) (last - at) }
-{
-    let mut i = at;
-    while i < last {
-        store[i] = store[i + 16];
-        i += 1;
+        store.copy_within(at + 16.., at);
+        store[last..].fill(0);
     }
 }
 
@@ -52,10 +39,10 @@ pub fn join(store: &mut [u8], cookie: ServerCookie)
     let free = find(store, ServerCookie(0));
     let n = store.len();
     if free < n {
-        number::put64(store, free, cookie.0);
+        number::put(store, free, cookie.0);
         return;
     }
-    let last = if n < 16 { 0 } else { n - 16 };
+    let last = n.saturating_sub(16);
     remove(store, 0);
-    number::put64(store, last, cookie.0);
+    number::put(store, last, cookie.0);
 }

@@ -1,3 +1,2 @@
 -- The laws of text. Assumes nothing.
-pub mod Gathering
 pub mod Places

@@ -1,49 +1,53 @@
 -- Parts, places and pieces of a text. Assumes nothing.
-use Rattle.std.proofs.Common.{◌≡◌, ℕ, suc, ◌+◌, ◌-◌, ◌<◌, ◌≤◌, Bool, true, false, cond, ◌&&◌, eqb, leb, List, [], ◌∷◌, length, get_or, take, drop, sym, refl, ap, ◌∙◌, add-one, arith, length-drop, drop_of_length-le, drop-cons, drop-drop, eq-eqb, eqb-true, le-leb, leb-false, leb-true}
-use borrow.Author.Tests.{lt-leb}
+use Rattle.std.proofs.Common.{◌≡◌, ℕ, suc, ◌+◌, ◌-◌, ◌<◌, ◌≤◌, Bool, true, false, cond, not, eqb, leb, ltb, List, [], ◌∷◌, length, drop, Some, None, sym, refl, ap, ◌∙◌, arith, length-drop, drop_of_length-le, drop-drop, le-leb, leb-false, leb-true}
+use borrow.Author.Tests.{ltb-true, ltb-false}
+use Rattle.std.specs.List.{position, position_or_len}
+use Rattle.std.specs.Cmp.Lexicographic.{pointwise}
 use lib.Seq.{drop-length}
 use Rattle.text.specs.Place.{part_of, fits, onward, ahead, octet_place, piece_from, piece_of, same_of}
 
--- a part that begins after its end is empty
-pub part-late : (s : List ℕ) (from to : ℕ) → to < from → [] ≡ part_of s from to
-part-late s from to h = go (leb to (length s))
-  where
-    go : (b : Bool) → [] ≡ cond b (take (to - from) (drop from s)) []
-    go true = let e : to - from ≡ 0 = omega arith in rw e
-    go false = refl
-
--- a part that ends past the end is empty
-pub part-past : (s : List ℕ) (from to : ℕ) → length s < to → [] ≡ part_of s from to
-part-past s from to h = rw (lt-leb to (length s) h)
-
-pub part-inside : (s : List ℕ) (from to : ℕ) → to ≤ length s → take (to - from) (drop from s) ≡ part_of s from to
-part-inside s from to h = rw (le-leb to (length s) h)
-
 module _ (octet : ℕ) (same : Bool) where
-  -- looking at one octet more
-  pub onward-pass : (s : List ℕ) (i : ℕ) → i < length s → fits octet same (get_or s i 0) ≡ false
-      → onward octet same (drop (i + 1) s) ≡ onward octet same (drop i s)
-  unfolding onward
-  onward-pass s i h e = rw (drop-cons s i 0 h, add-one) (rw e)
-
-  onward-here : (s : List ℕ) (i : ℕ) → i < length s → fits octet same (get_or s i 0) ≡ true
-      → onward octet same (drop i s) ≡ drop i s
-  unfolding onward
-  onward-here s i h e = rw (drop-cons s i 0 h) (rw e)
-
   onward-end : (s : List ℕ) (i : ℕ) → length s ≤ i → onward octet same (drop i s) ≡ []
   unfolding onward
   onward-end s i h = rw (drop_of_length-le s h)
 
-  -- the place is found
-  pub place_here : (s : List ℕ) (at i : ℕ) → i < length s → fits octet same (get_or s i 0) ≡ true
-      → onward octet same (drop i s) ≡ onward octet same (drop at s) → i ≡ octet_place s at octet same
-  place_here s at i h t e = rw (sym e ∙ onward-here s i h t) (omega (arith, length-drop i s))
+  -- how many stand before it
+  first-place : (s : List ℕ) → position_or_len (fits octet same) s + length (onward octet same s) ≡ length s
+  unfolding onward
+  first-place [] = refl
+  first-place (x ∷ xs) = go (fits octet same x) (first-place xs)
+    where
+      go : (b : Bool) → position_or_len (fits octet same) xs + length (onward octet same xs) ≡ length xs
+          → cond (not b) (1 + position_or_len (fits octet same) xs) 0 + length (cond b (x ∷ xs) (onward octet same xs)) ≡ length (x ∷ xs)
+      go true e = omega arith
+      go false e = omega arith
 
-  -- there is none
-  pub place_end : (s : List ℕ) (at i : ℕ) → length s ≤ i
-      → onward octet same (drop i s) ≡ onward octet same (drop at s) → length s ≡ octet_place s at octet same
-  place_end s at i h e = rw (sym e ∙ onward-end s i h) (omega arith)
+  module _ (s t : List ℕ) (at : ℕ) (e : t ≡ drop at s) where
+    -- the place is found
+    pub place_here : (i : ℕ) → Some i ≡ position (fits octet same) t → (at + i < length s) × (at + i ≡ octet_place s at octet same)
+    place_here i f = go (ltb (position_or_len (fits octet same) t) (length t)) refl f
+      where
+        go : (b : Bool) → ltb (position_or_len (fits octet same) t) (length t) ≡ b → Some i ≡ cond b (Some (position_or_len (fits octet same) t)) None
+            → (at + i < length s) × (at + i ≡ octet_place s at octet same)
+        go true g h =
+            let k : i ≡ position_or_len (fits octet same) t = cc in
+            let l = ltb-true (position_or_len (fits octet same) t) (length t) g in
+            let m = first-place t in
+            let n : length t ≡ length s - at = ap length e ∙ length-drop at s in
+            (omega arith, rw (← e) (omega arith))
+        go false g h = cc
+
+    -- there is none
+    pub place_end : None ≡ position (fits octet same) t → length s ≡ octet_place s at octet same
+    place_end f = go (ltb (position_or_len (fits octet same) t) (length t)) refl f
+      where
+        go : (b : Bool) → ltb (position_or_len (fits octet same) t) (length t) ≡ b → None ≡ cond b (Some (position_or_len (fits octet same) t)) None
+            → length s ≡ octet_place s at octet same
+        go true g h = cc
+        go false g h =
+            let l = ltb-false (position_or_len (fits octet same) t) (length t) g in
+            let m = first-place t in
+            rw (← e) (omega arith)
 
   -- what is left is no more than there was
   onward-length : (s : List ℕ) → length (onward octet same s) ≤ length s
@@ -113,29 +117,10 @@ module _ (s : List ℕ) (number separator : ℕ) where
       let n : to - at ≡ length (drop at s) - length (onward separator true (drop at s)) = omega arith in
       rw (z, le-leb to (length s) (omega arith), n)
 
--- SAME TEXTS
-
-same_refl : (a : List ℕ) → same_of a a ≡ true
+-- the library's test of two texts
+pub same_as : (a b : List ℕ) → pointwise eqb a b ≡ same_of a b
 unfolding same_of
-same_refl [] = refl
-same_refl (x ∷ xs) = rw (eq-eqb x x refl) (same_refl xs)
-
-same-eq : (a b : List ℕ) → same_of a b ≡ true → a ≡ b
-unfolding same_of
-same-eq [] [] e = refl
-same-eq [] (y ∷ ys) e = let f : false ≡ true = e in cc
-same-eq (x ∷ xs) [] e = let f : false ≡ true = e in cc
-same-eq (x ∷ xs) (y ∷ ys) e = go (eqb x y) refl e (same-eq xs ys)
-  where
-    go : (t : Bool) → eqb x y ≡ t → (t && same_of xs ys) ≡ true → (same_of xs ys ≡ true → xs ≡ ys) → x ∷ xs ≡ y ∷ ys
-    go true f g k = let h = eqb-true x y f in let l = k g in cc
-    go false f g k = let h : false ≡ true = g in cc
-
--- a test that is true exactly for equal texts
-pub same-as : (a b : List ℕ) (r : Bool) → (r ≡ true → a ≡ b) → (a ≡ b → r ≡ true) → r ≡ same_of a b
-same-as a b true f g = let e = f refl in rw (← e) (sym (same_refl a))
-same-as a b false f g = go (same_of a b) refl
-  where
-    go : (t : Bool) → same_of a b ≡ t → false ≡ t
-    go true e = g (same-eq a b e)
-    go false e = refl
+same_as [] [] = refl
+same_as [] (y ∷ ys) = refl
+same_as (x ∷ xs) [] = refl
+same_as (x ∷ xs) (y ∷ ys) = rw (same_as xs ys)

@@ -19,16 +19,19 @@ pub struct Line {
 }
 
 // How many octets go to the line: those up to `stop`, unless its comment has begun.
+#[tactic(auto, unfolding(crate::specs::Gather::taken_of))]
 fn taken(text: &[u8], at: usize, stop: usize, comment: bool) -> usize
     ensures { result ≡ taken_of text.now at stop comment }
 {
     if comment {
-        return 0;
+        0
+    } else {
+        part(text, at, stop).len()
     }
-    part(text, at, stop).len()
 }
 
 // Gathers what was read, up to the line's end or its comment. A piece that has no room counts, and is not kept.
+#[tactic(auto, unfolding(crate::specs::Gather::gathered, crate::specs::Gather::gathered_to))]
 pub fn gather(text: &[u8], state: Line, line: &mut [u8]) -> Line
     ensures { (result, line.new) ≡ gathered text.now state line.old }
 {
@@ -37,12 +40,10 @@ pub fn gather(text: &[u8], state: Line, line: &mut [u8]) -> Line
     let n = taken(text, state.at, stop, state.comment);
     octets::part::copy(line, state.size, text, state.at, n);
     Line {
-        number: state.number,
-        size: std::num::wrapping_add_usize(state.size, n),
+        size: state.size.wrapping_add(n),
         comment: state.comment | (stop < end),
         ended: state.ended | (end < text.len()),
-        count: state.count,
         at: end + 1,
-        last: state.last,
+        ..state
     }
 }

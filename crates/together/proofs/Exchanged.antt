@@ -13,15 +13,14 @@ use Rattle.header.specs.Header.{header_of}
 use Rattle.header.specs.declared.edition.Edition.{Edition}
 use Rattle.header.specs.declared.edition.Edition.TheVariants.{One, Seven}
 use Rattle.poll_request.specs.Request.{poll_octets}
-use Rattle.exchange.specs.Response.{response_of}
+use Rattle.exchange.specs.Response.{response_of, Response}
 use Rattle.exchange.specs.Judging.{outcome_of}
 use Rattle.poll_request.specs.Request.{offset_place, poll_length}
 use Rattle.poll_request.specs.declared.Asked.{Asked}
-use Rattle.exchange.specs.declared.response.Response.{Response}
 use Rattle.poll_request.proofs.Polls.{poll-offset}
 use Rattle.state.specs.Plain.{Opened, Outstanding, Place, closed, opened, place_edition, received, reply_of, place_do, place_filter}
-use Rattle.state.specs.declared.event.Event.TheVariants.{Receive}
-use Rattle.state.specs.declared.event.Reply.{Reply}
+use Rattle.state.specs.Event.{Receive}
+use Rattle.state.specs.Reply.{Reply}
 use Rattle.association.proofs.Responses.{chunk_octets, copied, taken-length}
 use Rattle.association.proofs.Reached.{GoodPlace, GoodOpened}
 use Rattle.order.specs.Order.{after}

@@ -11,9 +11,8 @@ use lib.Seq.{get_or-set_same}
 use Rattle.poll_request.specs.Request.{poll_octets, poll_length}
 use Rattle.poll_request.specs.declared.Asked.{Asked}
 use Rattle.state.specs.Plain.{Opened, Place, closed, opened, place_edition, polled as polled_place, place_do}
-use Rattle.state.specs.declared.event.Event.{Event}
-use Rattle.state.specs.declared.event.Event.TheVariants.{Poll}
-use Rattle.state.specs.declared.event.Reply.{Reply}
+use Rattle.state.specs.Event.{Event, Poll}
+use Rattle.state.specs.Reply.{Reply}
 use Rattle.state.proofs.Chunks.{chunk-size}
 use Rattle.association.proofs.Reached.{GoodPlace, GoodOpened, ranges as open-ranges, timescale-held, sent-fits}
 use Rattle.order.specs.Order.{TaggedCall, after, EveryCall}

@@ -8,9 +8,8 @@ use lib.ListN.{length, get_or, set}
 use lib.Seq.{set-get_or}
 use Rattle.exchange.specs.Response.{response_of}
 use Rattle.state.specs.Plain.{Place, closed, place_edition}
-use Rattle.state.specs.declared.event.Event.{Event}
-use Rattle.state.specs.declared.event.Event.TheVariants.{Poll, Receive}
-use Rattle.state.specs.declared.event.Reply.{Reply}
+use Rattle.state.specs.Event.{Event, Poll, Receive}
+use Rattle.state.specs.Reply.{Reply}
 use Rattle.octets.proofs.Tests.{by-test}
 use Rattle.state.proofs.Refused.{refused-same}
 use Rattle.client_rules.proofs.Refused.{number_of}

@@ -13,9 +13,8 @@ use Rattle.poll_request.specs.Request.{poll_length}
 use Rattle.poll_request.specs.declared.Asked.{Asked}
 use Rattle.state.specs.Rules.{poll_reply}
 use Rattle.state.specs.Plain.{Outstanding, Opened, Place, closed, opened, polled, reported, sent_cookie, is_last, place_do}
-use Rattle.state.specs.declared.event.Event.{Event}
-use Rattle.state.specs.declared.event.Event.TheVariants.{Poll, Sent}
-use Rattle.state.specs.declared.event.Reply.{Reply}
+use Rattle.state.specs.Event.{Event, Poll, Sent}
+use Rattle.state.specs.Reply.{Reply}
 use Rattle.state.proofs.Refused.{by-request}
 use Rattle.order.specs.Order.{TaggedCall, after, EveryCall}
 use Rattle.client_rules.specs.Call.{Call, clear_table, open_one, close_one, poll, sent, receive, loop_verdict, publish, Typed, Answer}

@@ -1,12 +1,15 @@
 // A trace of client calls, W-208: what it begins with.
 #![tactic(auto)]
 
-ghost use Rattle.std.specs.Prelude.{◌≡◌, ◌+◌, ◌≤◌, length};
-ghost use Rattle.trace_rules.specs.Record.{head_length, data_size, wrong_mode, action_of, found_of_kind, found_in};
+mod kind;
+
+ghost use Rattle.std.specs.Prelude.{◌≡◌, ◌+◌, ◌<◌, ◌≤◌, length};
+ghost use Rattle.trace_rules.specs.Record.{head_length, data_size, found_in};
+ghost use Rattle.trace.specs.Kind.{kind_number, found_of, action_or_fault};
 
 use header::ClientCookie;
-use octets::number::{get8, get16, get64};
-use octets::sign::from_octet;
+use kind::Kind;
+use octets::number::get;
 use trace_rules::{Action, Fault, Found, Record};
 
 // W208-2: the octets before the data.
@@ -15,82 +18,68 @@ pub const HEAD: usize = 14;
 // W208-1.
 const MARK: u16 = 0x4E35;
 
-// W208-4.
-fn data_size(kind: u8, size: usize) -> usize
-    ensures { result ≡ data_size kind size }
+// W208-4, W208-5: the call of a kind, whose data is there. A poll's mode is 0 or 1.
+fn action(kind: Kind, s: &[u8]) -> Result<Action, Fault>
+    requires { head_length + data_size (kind_number kind) 0 ≤ length s.now }
+    ensures { result ≡ action_or_fault (kind_number kind) s.now }
 {
     match kind {
-        1 => 4,
-        2 => 10,
-        4 => size,
-        _ => 0,
+        Kind::Open => Ok(Action::Open(get::<u8>(s, 14), get::<u8>(s, 15), get::<u16>(s, 16))),
+        Kind::Poll => {
+            let interleaved = match get::<u8>(s, 23) {
+                0 => false,
+                1 => true,
+                _ => return Err(Fault::Kind),
+            };
+            Ok(Action::Poll(
+                ClientCookie(get::<u64>(s, 14)),
+                get::<u8>(s, 22).cast_signed(),
+                interleaved,
+            ))
+        }
+        Kind::Sent => Ok(Action::Sent(get::<u64>(s, 6))),
+        Kind::Receive => Ok(Action::Receive(get::<u64>(s, 6))),
+        Kind::Close => Ok(Action::Close),
     }
 }
 
-// W208-4.
-fn wrong_mode(kind: u8, s: &[u8]) -> bool
-    requires { head_length + data_size kind 0 ≤ length s.now }
-    ensures { result ≡ wrong_mode kind s.now }
+// W208-6, W208-7: the record that octets begin with, or its first fault.
+#[tactic(auto, using(octets::proofs::Numbers::got), unfolding(trace_rules::specs::Record::found_in))]
+fn record(s: &[u8]) -> Result<Record, Fault>
+    requires { 0 < length s.now }
+    ensures { found_of result ≡ found_in s.now }
 {
-    if kind == 2 {
-        return 1 < get8(s, 23);
+    if s.len() < HEAD {
+        return Err(Fault::Cut);
     }
-    false
-}
-
-// W208-4, W208-5.
-fn action(kind: u8, s: &[u8]) -> Action
-    requires { head_length + data_size kind 0 ≤ length s.now }
-    ensures { result ≡ action_of kind s.now }
-{
-    match kind {
-        1 => Action::Open(get8(s, 14), get8(s, 15), get16(s, 16)),
-        2 => Action::Poll(
-            ClientCookie(get64(s, 14)),
-            from_octet(get8(s, 22)),
-            get8(s, 23) == 1,
-        ),
-        3 => Action::Sent(get64(s, 6)),
-        4 => Action::Receive(get64(s, 6)),
-        _ => Action::Close,
+    if get::<u16>(s, 0) != MARK {
+        return Err(Fault::Mark);
     }
-}
-
-// W208-6, W208-7: the first fault of a record whose head is there and has the mark, or its call.
-fn record(kind: u8, size: usize, s: &[u8]) -> Found
-    requires { head_length ≤ length s.now }
-    ensures { result ≡ found_of_kind kind size s.now }
-{
-    if !((0 < kind) & (kind < 6)) {
-        return Found::Wrong(Fault::Kind);
-    }
-    if size != data_size(kind, size) {
-        return Found::Wrong(Fault::Length);
+    let kind = Kind::try_from(get::<u8>(s, 2))?;
+    let size = usize::from(get::<u16>(s, 4));
+    if size != kind.data_size(size) {
+        return Err(Fault::Length);
     }
     if s.len() - HEAD < size {
-        return Found::Wrong(Fault::Cut);
+        return Err(Fault::Cut);
     }
-    if wrong_mode(kind, s) {
-        return Found::Wrong(Fault::Kind);
-    }
-    Found::Call(Record {
-        association: get8(s, 3),
-        action: action(kind, s),
+    let action = action(kind, s)?;
+    Ok(Record {
+        association: get::<u8>(s, 3),
+        action,
         size,
     })
 }
 
+#[tactic(auto, unfolding(trace_rules::specs::Record::found_in))]
 pub fn read(s: &[u8]) -> Found
     ensures { result ≡ found_in s.now }
 {
-    if s.len() == 0 {
+    if s.is_empty() {
         return Found::End;
     }
-    if s.len() < HEAD {
-        return Found::Wrong(Fault::Cut);
+    match record(s) {
+        Ok(record) => Found::Call(record),
+        Err(fault) => Found::Wrong(fault),
     }
-    if get16(s, 0) != MARK {
-        return Found::Wrong(Fault::Mark);
-    }
-    record(get8(s, 2), get16(s, 4) as usize, s)
 }

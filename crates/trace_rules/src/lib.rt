@@ -35,7 +35,7 @@ pub enum Fault {
     Cut,
 }
 
-// What a trace begins with.
+// What a trace begins with: three cases, which the claims on traces name; a `Result<Option<Record>, Fault>` is no plainer.
 #[derive(Clone, Copy)]
 pub enum Found {
     Call(Record),

@@ -3,3 +3,4 @@ pub mod Line
 pub mod Mode
 pub mod Numeral
 pub mod OctetWord
+pub mod Wrong

@@ -1,7 +1,11 @@
 -- Numbers as words: decimal, or hexadecimal after 0x; signed ones may begin with a minus sign.
 use Rattle.std.specs.Prelude.{ℕ, ◌+◌, ◌-◌, ◌*◌, ◌%◌, ◌^◌, Bool, true, false, cond, ◌&&◌, List, [], ◌∷◌, length, drop, ◌==◌, nat_le, nat_lt}
 use Rattle.octets.specs.Number.{get_at}
-use Rattle.words.specs.declared.number.Value.{Value}
+
+-- a word's value: a number, or how many octets it has; and what is wrong with it, or 0
+pub record Value : Type 0 where
+  pub value : ℕ
+  pub problem : ℕ
 
 -- 0 to 9, then a to f or A to F; 16 is no digit
 unfoldable pub digit_of : ℕ → ℕ

@@ -1,10 +1,14 @@
 -- Octets as a word: pairs of hexadecimal digits, some with a count, and commas between them.
 use Rattle.std.specs.Prelude.{ℕ, zero, suc, ◌+◌, ◌-◌, ◌*◌, ◌%◌, true, cond, ◌&&◌, List, length, take, drop, ◌==◌, nat_le, nat_lt}
 use Rattle.octets.specs.Number.{get_at, put_at}
-use Rattle.words.specs.declared.number.Value.{Value}
-use Rattle.words.specs.declared.octet_word.Run.{Run}
-use Rattle.words.specs.Numeral.{digit_of, digits_of, value}
+use Rattle.words.specs.Numeral.{Value, digit_of, digits_of, value}
 use Rattle.text.specs.Place.{part_of, octet_place}
+
+-- a pair at a text's start: how often its octet stands, how much text says so, with a comma after it, and what is wrong with it, or 0
+pub record Run : Type 0 where
+  pub times : ℕ
+  pub end : ℕ
+  pub problem : ℕ
 
 abbrev pub run : ℕ → ℕ → Run
 run times end = record { times = times; end = end; problem = 0 }

@@ -5,3 +5,4 @@ pub mod line;
 pub mod mode;
 pub mod number;
 pub mod octet_word;
+pub mod problem;

@@ -1,51 +1,81 @@
 // The words of a line, by their places in it or by their letters in a row. The remainders only say that a number fits.
-ghost use Rattle.std.specs.Prelude.{◌≡◌, ◌%◌};
+ghost use Rattle.std.specs.Prelude.{◌≡◌, ℕ, ◌%◌, ◌^◌};
 ghost use Rattle.words.specs.Line.{number_at, bits_at, signed_at, signed16_at, word_of};
 
 use crate::number::read;
-use octets::sign::{from_octet, from_word};
+use crate::problem::value;
 use text::{find, piece};
 
+// A number of WIDTH bits; `value` is its value.
+pub trait Bits: Copy {
+    ghost WIDTH: { ℕ };
+
+    ghost value: { Self → ℕ };
+
+    fn low(x: u64) -> Self
+        ensures { value result ≡ x % 2 ^ WIDTH };
+}
+
+impl Bits for u8 {
+    ghost WIDTH = { 8 };
+
+    ghost value = { λ x. x };
+
+    fn low(x: u64) -> u8 {
+        (x % 256) as u8
+    }
+}
+
+impl Bits for u16 {
+    ghost WIDTH = { 16 };
+
+    ghost value = { λ x. x };
+
+    fn low(x: u64) -> u16 {
+        (x % 65536) as u16
+    }
+}
+
+impl Bits for u32 {
+    ghost WIDTH = { 32 };
+
+    ghost value = { λ x. x };
+
+    fn low(x: u64) -> u32 {
+        (x % 4294967296) as u32
+    }
+}
+
+#[tactic(auto, unfolding(crate::specs::Line::number_at))]
 pub fn u64_at(line: &[u8], word: usize) -> u64
     ensures { result ≡ number_at line.now word }
 {
-    let value = read(piece(line, word, b' '), b'q');
-    value.value
+    value(read(piece(line, word, b' '), b'q'))
 }
 
-pub fn u32_at(line: &[u8], word: usize) -> u32
-    ensures { result ≡ bits_at 32 line.now word }
+// The same of fewer bits.
+pub fn bits_at<N: Bits>(line: &[u8], word: usize) -> N
+    ensures { N.value result ≡ bits_at N.WIDTH line.now word }
 {
-    (u64_at(line, word) % 4294967296) as u32
+    N::low(u64_at(line, word))
 }
 
-pub fn u16_at(line: &[u8], word: usize) -> u16
-    ensures { result ≡ bits_at 16 line.now word }
-{
-    (u64_at(line, word) % 65536) as u16
-}
-
-pub fn u8_at(line: &[u8], word: usize) -> u8
-    ensures { result ≡ bits_at 8 line.now word }
-{
-    (u64_at(line, word) % 256) as u8
-}
-
+#[tactic(auto, unfolding(crate::specs::Line::signed_at))]
 pub fn i8_at(line: &[u8], word: usize) -> i8
     ensures { result ≡ signed_at line.now word }
 {
-    let value = read(piece(line, word, b' '), b's');
-    from_octet((value.value % 256) as u8)
+    u8::low(value(read(piece(line, word, b' '), b's'))).cast_signed()
 }
 
+#[tactic(auto, unfolding(crate::specs::Line::signed16_at))]
 pub fn i16_at(line: &[u8], word: usize) -> i16
     ensures { result ≡ signed16_at line.now word }
 {
-    let value = read(piece(line, word, b' '), b't');
-    from_word((value.value % 65536) as u16)
+    u16::low(value(read(piece(line, word, b' '), b't'))).cast_signed()
 }
 
 // The word whose letter stands in the second word of a row, or none.
+#[tactic(auto, unfolding(crate::specs::Line::word_of))]
 pub fn word_of<'a>(line: &'a [u8], row: &[u8], letter: u8) -> &'a [u8]
     ensures { result.now ≡ word_of line.now row.now letter }
 {

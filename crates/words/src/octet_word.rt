@@ -1,114 +1,99 @@
 // Octets as a word: pairs of hexadecimal digits, where *N after a pair has its octet stand N times. A comma
 // may stand between pairs, and must where more follows a count. A word of one minus sign is no octets.
 ghost use Rattle.std.specs.Prelude.{◌≡◌, ◌+◌, ◌≤◌, length};
-ghost use Rattle.words.specs.OctetWord.{separated_at, counted_run, run_of, pair_of, run_problem, fill_from, write_from, write_of, word_octets};
+ghost use Rattle.words.specs.OctetWord.{separated_at, counted_run, run_of, pair_of, fill_from, write_from, write_of, word_octets};
+ghost use Rattle.words.specs.Wrong.{value_of, nibble_of, run_as, allowed};
 
-use crate::number::{NOT_A_NUMBER, Value, digit, digits};
-use octets::number::{get8, put8};
-use text::{find, part, rest};
+use crate::number::{Base, digit, digits};
+use crate::problem::{Problem, Wrong, value};
+use octets::number::{get, put};
+use text::{find, part, rest, same};
 
-// What can be wrong with a word that is to be octets.
-pub const NOT_OCTETS: u8 = 6;
-
-pub const ODD_DIGITS: u8 = 7;
-
-pub const TOO_MANY_OCTETS: u8 = 8;
-
-// A pair at a text's start: how often its octet stands, how much text says so, with a comma after it, and what is
-// wrong with it.
+// A pair at a text's start: how often its octet stands, and how much text says so, with a comma after it.
 #[derive(Clone, Copy)]
 pub struct Run {
     pub times: u64,
     pub end: usize,
-    pub problem: u8,
 }
 
 // A comma at `at` is passed, and more has to follow it.
-fn separated(text: &[u8], at: usize, times: u64) -> Run
-    ensures { result ≡ separated_at text.now at times }
+#[tactic(auto, unfolding(crate::specs::OctetWord::separated_at))]
+fn separated(text: &[u8], at: usize, times: u64) -> Result<Run, Problem>
+    ensures { run_as result ≡ separated_at text.now at times }
 {
-    if get8(text, at) != b',' {
-        return Run {
-            times: times,
-            end: at,
-            problem: 0,
-        };
+    if get::<u8>(text, at) != b',' {
+        return Ok(Run { times, end: at });
     }
     if rest(text, at).len() == 1 {
-        return Run {
-            times: 0,
-            end: 0,
-            problem: NOT_OCTETS,
-        };
+        return Err(Problem::NotOctets);
     }
-    Run {
-        times: times,
-        end: at + 1,
-        problem: 0,
-    }
+    Ok(Run { times, end: at + 1 })
 }
 
-// A pair with a count after it.
-fn counted(text: &[u8]) -> Run
-    ensures { result ≡ counted_run text.now }
+// A pair with a count after it. One that is out of range is too many octets in any case.
+#[tactic(auto, unfolding(crate::specs::OctetWord::counted_run, crate::specs::OctetWord::after_count), using(crate::proofs::Problems::not_a_number))]
+fn counted(text: &[u8]) -> Result<Run, Problem>
+    ensures { run_as result ≡ counted_run text.now }
 {
     let end = find(text, 3, b',', true);
-    let count = digits(part(text, 3, end), 10, u64::MAX);
-    if count.problem == NOT_A_NUMBER {
-        return Run {
-            times: 0,
-            end: 0,
-            problem: NOT_OCTETS,
-        };
+    match digits(part(text, 3, end), Base::Decimal, u64::MAX) {
+        Ok(times) => separated(text, end, times),
+        Err(wrong) => match wrong.problem {
+            Problem::NotANumber => Err(Problem::NotOctets),
+            _ => separated(text, end, wrong.value),
+        },
     }
-    separated(text, end, count.value)
 }
 
-fn run_of(text: &[u8]) -> Run
-    ensures { result ≡ run_of text.now }
+#[tactic(auto, unfolding(crate::specs::OctetWord::run_of), using(crate::proofs::Numerals::no_digit, crate::proofs::Numerals::some_digit))]
+fn run_of(text: &[u8]) -> Result<Run, Problem>
+    ensures { run_as result ≡ run_of text.now }
 {
-    if digit(get8(text, 0)) > 15 {
-        return Run {
-            times: 0,
-            end: 0,
-            problem: NOT_OCTETS,
-        };
+    if digit(get::<u8>(text, 0)).is_none() {
+        return Err(Problem::NotOctets);
     }
-    if digit(get8(text, 1)) > 15 {
-        return Run {
-            times: 0,
-            end: 0,
-            problem: ODD_DIGITS,
-        };
+    if digit(get::<u8>(text, 1)).is_none() {
+        return Err(Problem::OddDigits);
     }
-    if get8(text, 2) == b'*' {
+    if get::<u8>(text, 2) == b'*' {
         return counted(text);
     }
     separated(text, 2, 1)
 }
 
+// A digit's part of its pair's octet.
+#[tactic(auto, using(crate::proofs::Numerals::below_some, crate::proofs::Numerals::below_none, crate::proofs::Numerals::digit_bound))]
+fn nibble(octet: u8) -> u8
+    ensures { result ≡ nibble_of octet }
+{
+    match digit(octet) {
+        Some(d) => (d % 16) as u8,
+        None => 0,
+    }
+}
+
 // The octet of the pair at a text's start.
+#[tactic(auto, unfolding(crate::specs::OctetWord::pair_of))]
 fn pair(text: &[u8]) -> u8
     ensures { result ≡ pair_of text.now }
 {
-    digit(get8(text, 0)) % 16 * 16 + digit(get8(text, 1)) % 16
+    nibble(get(text, 0)) * 16 + nibble(get(text, 1))
 }
 
-// What is wrong with a run, also that it has no room after so many octets.
-fn judge(run: Run, count: u64) -> u8
+// The run at a text's start, if it has room after so many octets.
+#[tactic(auto, unfolding(crate::specs::OctetWord::run_problem))]
+fn next(text: &[u8], count: u64) -> Result<Run, Problem>
     requires { count ≤ 4096 }
-    ensures { result ≡ run_problem run count }
+    ensures { run_as result ≡ allowed (run_of text.now) count }
 {
-    if run.problem != 0 {
-        return run.problem;
-    }
+    let run = run_of(text)?;
     if run.times > 4096 - count {
-        return TOO_MANY_OCTETS;
+        return Err(Problem::TooManyOctets);
     }
-    0
+    Ok(run)
 }
 
-// Writes an octet `times` times from `from` on, where the buffer has the places.
+// Writes an octet `times` times from `from` on, where the buffer has the places: from the last on, as `fill_from` does.
 fn fill(buffer: &mut [u8], from: u64, times: u64, octet: u8)
     requires { from + times ≤ 4096 }
     ensures { buffer.new ≡ fill_from buffer.old from times octet }
@@ -116,62 +101,55 @@ fn fill(buffer: &mut [u8], from: u64, times: u64, octet: u8)
     let mut left = times;
     while left > 0 {
         left -= 1;
-        put8(buffer, (from + left) as usize, octet);
+        put(buffer, (from + left) as usize, octet);
     }
 }
 
-// Each run takes an octet of the text at least, so that as many turns as octets are enough. The next run's place is
-// computed from what is left, which needs no sum.
-fn write_runs(word: &[u8], buffer: &mut [u8]) -> Value
-    ensures { (result, buffer.new) ≡ write_from (length word.now) buffer.old 0 word.now }
+// Each run takes an octet of the text at least, so that as many turns as octets are enough.
+fn write_runs(word: &[u8], buffer: &mut [u8]) -> Result<u64, Wrong>
+    ensures { (value_of result, buffer.new) ≡ write_from (length word.now) buffer.old 0 word.now }
 {
-    let mut at: usize = 0;
-    let mut count: u64 = 0;
-    let mut turns = word.len();
-    while turns > 0 && at < word.len() {
-        turns -= 1;
-        let text = rest(word, at);
-        let run = run_of(text);
-        let problem = judge(run, count);
-        if problem != 0 {
-            return Value {
-                value: count,
-                problem: problem,
-            };
+    let mut text = word;
+    let mut count = 0;
+    for turn in 0..word.len() {
+        if text.is_empty() {
+            return Ok(count);
         }
-        fill(buffer, count, run.times, pair(text));
-        count += run.times;
-        at = word.len() - rest(text, run.end).len();
+        match next(text, count) {
+            Ok(run) => {
+                fill(buffer, count, run.times, pair(text));
+                count += run.times;
+                text = rest(text, run.end);
+            }
+            Err(problem) => return Err(Wrong {
+                problem,
+                value: count,
+            }),
+        }
     }
-    Value {
-        value: count,
-        problem: 0,
-    }
+    Ok(count)
 }
 
 // Writes the octets that a word spells from the buffer's start on, those before the first wrong run too, where the buffer has
 // the places. The value is how many they are.
-pub fn write(word: &[u8], buffer: &mut [u8]) -> Value
-    ensures { (result, buffer.new) ≡ write_of word.now buffer.old }
+pub fn write(word: &[u8], buffer: &mut [u8]) -> Result<u64, Wrong>
+    ensures { (value_of result, buffer.new) ≡ write_of word.now buffer.old }
 {
-    if (word.len() == 1) & (get8(word, 0) == b'-') {
-        return Value {
-            value: 0,
-            problem: 0,
-        };
+    if same(word, b"-") {
+        return Ok(0);
     }
     write_runs(word, buffer)
 }
 
 // The octets that a word spells, written from the buffer's start on, as many of them as it has places for. They come back as a
 // part of the buffer, so that a caller has no end to prove; the rest of it is out of reach while the part is in use.
+#[tactic(auto, unfolding(crate::specs::OctetWord::word_octets))]
 pub fn octets_of<'a>(word: &[u8], buffer: &'a mut [u8]) -> &'a mut [u8]
     ensures { result.now ≡ word_octets word.now buffer.old }
 {
-    let written = write(word, buffer);
-    let n = written.value as usize;
+    let n = value(write(word, buffer)) as usize;
     if n <= buffer.len() {
-        return &mut buffer[0..n];
+        return &mut buffer[..n];
     }
     buffer
 }

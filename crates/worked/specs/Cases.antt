@@ -9,7 +9,7 @@ use Rattle.chain.specs.Chain.{sound_refusal}
 use Rattle.field_role.specs.Role.{good_request}
 use Rattle.filter_rules.specs.Filter.{of_id, weight}
 use Rattle.measure.specs.Measure.{measurement}
-use Rattle.measure.specs.declared.Measurement.{Measurement}
+use Rattle.measure.specs.Measure.{Measurement}
 
 pub record Row : Type 0 where
   pub case : ℕ

@@ -1,7 +1,7 @@
 -- The idle programs of measurement and weight, P-7 and P-9, and that they are rejected: the claim that the rule names is false of each.
 use Rattle.std.specs.Prelude.{◌≡◌, List, ℕ, ◌+◌, ℤ, length}
 use Rattle.filter_rules.specs.Filter.{weight}
-use Rattle.measure.specs.declared.Measurement.{Measurement}
+use Rattle.measure.specs.Measure.{Measurement}
 use Rattle.worked.specs.Cases.{MeasurementFunction, WeightFunction, WorkedFor}
 
 -- ONE FIXED ANSWER: P-7

@@ -5,4 +5,4 @@ use Rattle.actions.proofs.lend.Goals as goal
 
 pub returns : goal.returns
 returns g c =
-    lent _ _ _ _ _ (octets-at _ _ _ 1 c.piece.ensures c.octets_of-octets.ensures) c.put16.ensures c.copy.ensures
+    lent _ _ _ _ _ (octets-at _ _ _ 1 c.piece.ensures c.octets_of-octets.ensures) c.put.ensures c.copy.ensures

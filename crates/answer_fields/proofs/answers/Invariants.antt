@@ -5,8 +5,8 @@ use lib.ListN.{length}
 use Rattle.answer_fields.proofs.Passes.{Passing}
 use Rattle.answer_fields.proofs.answers.Given as goal
 
-abbrev pub invariant-loop-cursor : goal.invariant-loop-cursor
-invariant-loop-cursor l = Passing l.request l.filter l.information l.initial.out l.cursor.at l.met l.at l.out
+abbrev pub invariant-loop-field : goal.invariant-loop-field
+invariant-loop-field l = Passing l.given.request.now l.given.filter.now l.given.information.now l.initial.out l.cursor.at l.met l.at l.out
 
-abbrev pub decreases-loop-cursor : goal.decreases-loop-cursor
-decreases-loop-cursor l = length l.request - l.cursor.at
+abbrev pub decreases-loop-field : goal.decreases-loop-field
+decreases-loop-field l = length l.given.request.now - l.cursor.at

@@ -14,13 +14,6 @@ returns-in_default t c = c.refusal.ensures ∙ fields-stop _ _ c.step-outcome.en
 pub returns-then-field : goal.returns-then-field
 returns-then-field t c = c.after_mac.ensures ∙ fields-mac _ _ c.step-outcome.ensures _ _ c.in-Found.is c.if-field.true
 
--- the place that the step has reached is in the datagram
-pub slice_bounds-check-count : goal.slice_bounds-check-count
-slice_bounds-check-count t c = (reached _ 0 _ _ _ c.step-outcome.ensures c.in-Found.is).1
-
-pub slice_bounds-check-start : goal.slice_bounds-check-start
-slice_bounds-check-start t c = (reached _ 0 _ _ _ c.step-outcome.ensures c.in-Found.is).1
-
 pub check-requires : goal.check-requires
 check-requires t c =
     let s = c.args.rest.now in

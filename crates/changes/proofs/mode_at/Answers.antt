@@ -6,6 +6,6 @@ pub returns-then-same : goal.returns-then-same
 returns-then-same c =
     sym c.if-same.true ∙ c.same.ensures ∙ rw c.piece.ensures
 
-pub returns : goal.returns
-returns c =
+pub returns-else-same : goal.returns-else-same
+returns-else-same c =
     sym c.if-same.false ∙ c.same.ensures ∙ rw c.piece.ensures

@@ -10,7 +10,7 @@ pub returns : goal.returns
 returns g c =
     left _ _ _ _ _
     (poll-as _ _ _ _ _ _
-    c.u8_at.ensures
+    c.bits_at.ensures
     c.u64_at.ensures
     (to_z-of_z {w = w8} (record { sfits = c.i8_at.type_inv }) ∙ c.i8_at.ensures)
     c.mode_at.ensures

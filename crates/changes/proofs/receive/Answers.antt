@@ -7,7 +7,7 @@ pub returns : goal.returns
 returns g c =
     left _ _ _ _ _
     (receive-as _ _ _ _
-    c.u8_at.ensures
+    c.bits_at.ensures
     (octets-at _ _ _ 3 c.piece.ensures c.octets_of-datagram.ensures)
     c.u64_at.ensures)
     c.receive-received.ensures

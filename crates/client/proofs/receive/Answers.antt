@@ -1,33 +1,22 @@
--- `receive` meets its contract: the datagram is read in the association's edition. Assumes nothing.
-use mathlib.Core.Path.{◌≡◌, ap, ◌∙◌}
-use mathlib.Core.List.{List, []}
+-- `receive` meets its contract: the datagram is read in the association's edition, and an accepted response is measured. Assumes nothing.
+use mathlib.Core.Path.{refl, subst⁻¹}
+use mathlib.Core.List.{List}
 use Prim.Native.Nat.{ℕ}
-use Rattle.header.specs.declared.edition.Edition.{Edition}
-use Rattle.exchange.specs.Response.{response_of}
-use Rattle.exchange.specs.declared.response.Response.{Response}
-use Rattle.state.specs.declared.event.Reply.{Reply}
-use Rattle.state.specs.declared.event.Event.TheVariants.{Receive}
-use Rattle.client_rules.specs.Call.{Answer, receive_answer}
-use Rattle.client_rules.specs.Numbers.{edition_at, at_numbers}
-use Rattle.client.specs.declared.Measured.{Measured}
-use Rattle.client.proofs.Returned.{answered, receive-refused, receive-accepted}
+use Rattle.exchange.specs.Response.{responded}
+use Rattle.state.specs.Reply.{Reply}
+use Rattle.state.specs.Code.{reply_as}
+use Rattle.client.proofs.Told.{Told, Tells, response-told, was-measured}
 use Rattle.client.proofs.receive.Goals as goal
-use Rattle.client.proofs.receive.Goals.{After-apply-reply}
+use Rattle.client.proofs.receive.Goals.{In_ok-reply}
 
--- the reply, of the response as it is read
-replied : (c : After-apply-reply) → let a = c.args in ◌≡◌ {A = Reply × List ℕ} (c.apply-reply.result, c.apply-reply.new.table)
-    (at_numbers a.association (Receive (response_of (edition_at a.association a.table.now) a.datagram.now a.t4)) a.datagram.now a.table.now)
-replied c =
+-- what the reply tells of the response
+told : (c : In_ok-reply) → Told (reply_as c.in_ok-reply.reply)
+told c =
     let a = c.args in
-    let read = c.read-response.ensures ∙ ap (λ (e : Edition). response_of e a.datagram.now a.t4) c.edition-edition.ensures in
-    c.apply-reply.ensures ∙ ap (λ (r : Response). at_numbers a.association (Receive r) a.datagram.now a.table.now) read
+    subst⁻¹ (λ (w : Reply × List ℕ). Tells w.0) c.in_ok-reply.ensures (response-told (responded c.read-response.result a.t4) a.association a.datagram.now a.table.now) refl
 
-pub returns-then-reply-ne0 : goal.returns-then-reply-ne0
-returns-then-reply-ne0 c =
-    ap (λ (w : Answer). (w, c.apply-reply.new.table)) (receive-refused c.apply-reply.result c.if-reply-ne0.true) ∙ answered receive_answer (replied (goal.at.returns-then-reply-ne0 c).After-apply-reply)
+pub unreachable-requires : goal.unreachable-requires
+unreachable-requires c = was-measured c.in_ok-reply.reply (told (goal.at.unreachable-requires c).In_ok-reply) c.in_default.not-Measured
 
-pub returns : goal.returns
-returns c =
-    let answer : Measured → Answer = λ m. record { refusal = 0; size = 0; judgement = m.judgement; chunk = m.chunk; offset = m.offset; delay = m.delay; verdict = 0; out = [] } in
-    ap (λ (m : Measured). (answer m, c.apply-reply.new.table)) c.measure_reply.ensures
-    ∙ ap (λ (w : Answer). (w, c.apply-reply.new.table)) (receive-accepted c.apply-reply.result c.if-reply-ne0.false) ∙ answered receive_answer (replied (goal.at.returns c).After-apply-reply)
+pub measure_times-requires : goal.measure_times-requires
+measure_times-requires c = (rw c.in-Measured.is at (told (goal.at.measure_times-requires c).In_ok-reply)).usable

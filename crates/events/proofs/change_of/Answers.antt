@@ -1,5 +1,5 @@
 -- `change_of` meets its contract: the ranges decide. Assumes nothing.
-use mathlib.Core.Path.{sym, ◌∙◌}
+use mathlib.Core.Path.{refl, sym, ◌∙◌}
 use Rattle.state.proofs.Changes.{changed-in-range, changed-out-of-range}
 use Rattle.events.proofs.change_of.Goals as goal
 
@@ -10,4 +10,4 @@ pub returns-then-in_range : goal.returns-then-in_range
 returns-then-in_range c = changed-in-range _ _ _ _ c.in_range.ensures c.if-in_range.true c.change_in_range.ensures
 
 pub returns : goal.returns
-returns c = changed-out-of-range _ _ _ _ c.in_range.ensures c.if-in_range.false c.refuse.ensures
+returns c = changed-out-of-range _ _ _ _ c.in_range.ensures c.if-in_range.false refl

@@ -1,16 +1,14 @@
 -- `close` meets its contract: the test says whether it is open. Assumes nothing.
-use mathlib.Core.Path.{refl, subst⁻¹}
+use mathlib.Core.Path.{refl}
 use borrow.Author.Tests.{eq-eqb, ne_eqb}
 use Rattle.state.specs.Plain.{closed, place_do}
-use Rattle.state.specs.Change.{Does}
-use Rattle.state.specs.declared.event.Event.TheVariants.{Close}
 use Rattle.state.proofs.Changes.{refused, done}
 use Rattle.events.proofs.close.Goals as goal
 
 pub returns-then-h-eq0 : goal.returns-then-h-eq0
 unfolding place_do
-returns-then-h-eq0 c = refused 7 c.refuse.ensures refl (λ datagram f. rw (eq-eqb _ _ c.if-h-eq0.true))
+returns-then-h-eq0 c = refused 7 refl refl (λ datagram f. rw (eq-eqb _ _ c.if-h-eq0.true))
 
 pub returns : goal.returns
 unfolding place_do
-returns c = subst⁻¹ (Does Close c.args.h) (rw c.closed_head.ensures at c.done.ensures) (done {p = λ datagram f. closed} (record { leaves = λ datagram f. refl }) (λ datagram f. rw (ne_eqb _ _ c.if-h-eq0.false)) refl)
+returns c = rw c.closed_head.ensures (done {p = λ datagram f. closed} (record { leaves = λ datagram f. refl }) (λ datagram f. rw (ne_eqb _ _ c.if-h-eq0.false)) refl)

@@ -1,13 +1,13 @@
 -- `look_at` meets its contract: the ranges decide. Assumes nothing.
-use mathlib.Core.Path.{sym, ◌∙◌}
+use mathlib.Core.Path.{refl, sym, ◌∙◌}
 use Rattle.state.proofs.Changes.{changed-in-range, changed-out-of-range}
 use Rattle.events.proofs.look_at.Goals as goal
 
-pub look-requires : goal.look-requires
-look-requires c = sym c.in_range.ensures ∙ c.if-in_range.true
+pub is_complete-requires : goal.is_complete-requires
+is_complete-requires c = sym c.in_range.ensures ∙ c.if-in_range.true
 
 pub returns-then-in_range : goal.returns-then-in_range
-returns-then-in_range c = changed-in-range _ _ _ _ c.in_range.ensures c.if-in_range.true c.look.ensures
+returns-then-in_range c = changed-in-range _ _ _ _ c.in_range.ensures c.if-in_range.true c.is_complete.ensures
 
 pub returns : goal.returns
-returns c = changed-out-of-range _ _ _ _ c.in_range.ensures c.if-in_range.false c.refuse.ensures
+returns c = changed-out-of-range _ _ _ _ c.in_range.ensures c.if-in_range.false refl

@@ -6,7 +6,7 @@ pub returns : goal.returns
 returns c =
     let a = c.args in
     parts-written a.kind a.zeros a.at a.source.now a.out.now (λ j. (c.type_inv.source j).fits) c.requires.1
-    c.put16.ensures
-    c.put16-2.ensures
+    c.put.ensures
+    c.put-2.ensures
     c.copy.ensures
     c.zero.ensures

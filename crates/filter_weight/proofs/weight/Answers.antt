@@ -12,7 +12,7 @@ use Rattle.filter_weight.proofs.weight.Goals as goal
 use Rattle.filter_weight.proofs.weight.Goals.{After-word}
 
 pub loop-i-init : goal.loop-i-init
-loop-i-init c = (search rules, sym ones_none)
+loop-i-init c = sym ones_none
 
 -- a word has at most 64 ones
 word_ones : (c : After-word) → ones c.word.result ≤ 64
@@ -32,11 +32,11 @@ pub loop-i-preserved : goal.loop-i-preserved
 loop-i-preserved c =
     let f = c.args.filter.now in
     let i = c.loop-i.i in
-    let read = c.word.ensures ∙ word_read f i c.loop-i.invariant.0 (search rules) in
-    (search rules, omega (arith, ap ones read, ones-next (words_of f) i (omega (arith, sixty-four-words f))))
+    let read = c.word.ensures ∙ word_read f i c.requires (search rules) in
+    omega (arith, ap ones read, ones-next (words_of f) i (omega (arith, sixty-four-words f)))
 
 pub returns : goal.returns
 returns c =
     let f = c.args.filter.now in
     let all = take_all c.loop-i.i (words_of f) (omega (arith, sixty-four-words f)) in
-    c.loop-i.invariant.1 ∙ ap ones_of all ∙ sym (weight-words f (λ j. (c.type_inv.filter j).fits))
+    c.loop-i.invariant ∙ ap ones_of all ∙ sym (weight-words f (λ j. (c.type_inv.filter j).fits))

@@ -1,13 +1,9 @@
--- `take_all`: the first i words are pasted.
+-- `take_all`: the first i words are read.
 use mathlib.Core.Path.{◌≡◌}
-use Prim.Native.Nat.{◌-◌, ◌≤◌}
-use lib.ListN.{length, drop}
-use lib.Seq.{paste}
-use Rattle.word_rules.specs.Words.{words_from}
+use Prim.Native.Nat.{ℕ, ◌*◌, ◌<◌}
+use lib.ListN.{get_or}
+use Rattle.word_rules.specs.Words.{low_first}
 use Rattle.octet_words.proofs.take_all.Given as goal
 
 abbrev pub invariant-loop-i : goal.invariant-loop-i
-invariant-loop-i l = (l.i ≤ l.n) × (length l.words ≡ length l.initial.words) × (l.words ≡ paste l.initial.words l.at (words_from (drop l.from l.source) 0 l.n) l.i)
-
-abbrev pub decreases-loop-i : goal.decreases-loop-i
-decreases-loop-i l = l.n - l.i
+invariant-loop-i l = (k : ℕ) → k < l.i → get_or l.words k 0 ≡ low_first l.source (8 * k) 8

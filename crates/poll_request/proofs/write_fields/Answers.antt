@@ -1,6 +1,5 @@
 -- `write_fields` meets its contract: the two fields are written one after the other, or in edition 1 none is. Assumes nothing.
 use mathlib.Core.Path.{sym}
-use native.Mathlib.Omega.{arith}
 use lib.ListN.{take-append-drop}
 use Rattle.chain.specs.Content.{chain_octets, draft_name}
 use Rattle.poll_request.proofs.Requests.{fields-written}
@@ -14,4 +13,4 @@ pub returns-in-Seven : goal.returns-in-Seven
 unfolding draft_name
 returns-in-Seven c =
     let a = c.args in
-    fields-written a.asked c.in-Seven.is (omega arith) a.out.now c.requires c.put-at.ensures c.put.ensures
+    fields-written a.asked c.in-Seven.is a.out.now c.requires c.put-at.ensures c.to_be_bytes.ensures c.put.ensures

@@ -1,5 +1,5 @@
 -- Each turn sees one record more; once all are seen, what was seen decides.
-use Rattle.std.proofs.Common.{sym, ◌∙◌, arith}
+use Rattle.std.proofs.Common.{sym, ◌∙◌}
 use Rattle.records.specs.Records.{records_in}
 use Rattle.records.proofs.Slots.{length-in}
 use Rattle.records.proofs.Judging.{wrong-by-count, verdict-first, verdict-next, verdict-end}
@@ -9,16 +9,12 @@ pub returns-then-wrong_count : goal.returns-then-wrong_count
 returns-then-wrong_count c = sym (wrong-by-count (records_in c.args.records.now) (rw length-in (sym c.if-wrong_count.ensures)))
 
 pub loop-at-init : goal.loop-at-init
-loop-at-init c = record {
-  high = omega arith;
-  left = verdict-first (records_in c.args.records.now) (rw length-in (sym c.if-wrong_count.ensures));
-}
+loop-at-init c = verdict-first (records_in c.args.records.now) (rw length-in (sym c.if-wrong_count.ensures))
 
 pub loop-at-preserved : goal.loop-at-preserved
-loop-at-preserved c = record {
-  high = omega (arith, c.loop-at-test.true);
-  left = rw c.seen_after-seen.ensures (sym (verdict-next c.loop-at.seen c.args.records.now c.loop-at.at c.find-later.result c.loop-at-test.true c.find-later.ensures)) ∙ c.loop-at.invariant.left;
-}
+loop-at-preserved c =
+    let l = c.loop-at in
+    rw c.seen_after-seen.ensures (sym (verdict-next l.seen c.args.records.now l.at c.find-later.result c.loop-at-test.true c.find-later.ensures)) ∙ l.invariant
 
 pub returns : goal.returns
-returns c = sym (verdict-end c.loop-at.seen c.args.records.now c.loop-at.at c.loop-at-test.false) ∙ c.loop-at.invariant.left
+returns c = sym (verdict-end c.loop-at.seen c.args.records.now c.loop-at.at c.loop-at-test.false) ∙ c.loop-at.invariant

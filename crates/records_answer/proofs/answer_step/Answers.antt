@@ -1,43 +1,40 @@
 -- What is found in the records is what the plan on them takes, and the plan makes the step.
-use Rattle.std.proofs.Common.{◌≡◌, Bool, true, false, cond, ℕ, List, length, sym, ap, ◌∙◌}
+use Rattle.std.proofs.Common.{◌≡◌, length, sym, ap, ◌∙◌}
 use native.Mathlib.Nat.{zero-add}
+use Rattle.std.proofs.lemmas.Result.{err_from_is_err_and}
+use Rattle.refusal.specs.Refusal.{by_number}
 use Rattle.header.specs.declared.ServerCookie.{ServerCookie}
-use Rattle.header.specs.declared.Reading.{Reading}
 use Rattle.store_rules.specs.Place.{index_of}
-use Rattle.records.specs.Records.{records_in, place_from, time_at, wrong_records, leave_records, join_records}
-use Rattle.records.specs.declared.Record.{Record as Slot}
+use Rattle.records.specs.Records.{records_in}
 use Rattle.records.proofs.Slots.{length-in}
 use Rattle.answer_plan.specs.Step.{stepped, answer_step}
-use Rattle.answer_plan.specs.Value.{request_cookie, plan_of}
-use Rattle.answer_plan.specs.declared.Plan.{Plan}
+use Rattle.answer_plan.specs.Value.{Plan, request_cookie, plan_of}
 use Rattle.answer_plan.proofs.Stepping.{step_by, plan_on, plan-steps}
 use Rattle.records_answer.proofs.answer_step.Goals as goal
+use Rattle.records_answer.proofs.answer_step.Goals.{After-plan_of}
 
-module _ (rs : List Slot) (request : Reading) (short : Bool) (cookie asked : ServerCookie) (wrong : Bool) (fresh_at at time : ℕ) (plan : Plan) (is_wrong : wrong ≡ wrong_records (records_in rs)) (is_fresh_at : fresh_at ≡ place_from (records_in rs) cookie.0 0)
-    (is_asked : asked ≡ request_cookie request) (is_at : at ≡ place_from (records_in rs) asked.0 0) (is_time : time ≡ time_at (records_in rs) at) (made : plan ≡ plan_of wrong request short cookie (length rs) fresh_at at time) where
-  by-plan : step_by (records_in rs) cookie plan ≡ answer_step request short cookie.0 (records_in rs)
-  by-plan =
-      let a : index_of cookie.0 (records_in rs) ≡ fresh_at = sym (is_fresh_at ∙ zero-add (index_of cookie.0 (records_in rs))) in
-      let c : index_of (request_cookie request).0 (records_in rs) ≡ at = sym (is_at ∙ zero-add (index_of asked.0 (records_in rs)) ∙ ap (λ (k : ServerCookie). index_of k.0 (records_in rs)) is_asked) in
-      let found : plan_of wrong request short cookie (length rs) fresh_at at time ≡ plan_on (records_in rs) cookie request short = sym (rw (c, a, length-in rs, ← is_time, ← is_wrong)) in
-      ap (step_by (records_in rs) cookie) (made ∙ found) ∙ plan-steps (records_in rs) cookie request short
+module _ (c : After-plan_of) where
+  by-plan : {plan : Plan} → plan ≡ plan_of c.wrong.result (by_number c.args.request) c.args.short c.args.fresh_cookie (length c.args.records.now) c.find.result c.find-at.result c.time.result
+      → step_by (records_in c.args.records.now) c.args.fresh_cookie plan ≡ answer_step (by_number c.args.request) c.args.short c.args.fresh_cookie.0 (records_in c.args.records.now)
+  by-plan {plan} made =
+      let rs = records_in c.args.records.now in
+      let request = by_number c.args.request in
+      let fresh = c.args.fresh_cookie in
+      let f : index_of fresh.0 rs ≡ c.find.result = sym (c.find.ensures ∙ zero-add (index_of fresh.0 rs)) in
+      let a : index_of (request_cookie request).0 rs ≡ c.find-at.result = sym (c.find-at.ensures ∙ zero-add (index_of c.asked_cookie.result.0 rs) ∙ ap (λ (k : ServerCookie). index_of k.0 rs) c.asked_cookie.ensures) in
+      let found : plan_of c.wrong.result request c.args.short fresh (length c.args.records.now) c.find.result c.find-at.result c.time.result ≡ plan_on rs fresh request c.args.short =
+      sym (rw (f, a, length-in c.args.records.now, ← c.time.ensures, ← c.wrong.ensures)) in
+      ap (step_by rs fresh) (made ∙ found) ∙ plan-steps rs fresh request c.args.short
 
-  stayed : plan.unchanged ≡ true → stepped plan.step (records_in rs) ≡ answer_step request short cookie.0 (records_in rs)
-  stayed u = sym (ap (λ (b : Bool). stepped plan.step (cond b (records_in rs) (join_records (leave_records (records_in rs) plan.leaving) cookie.0))) u) ∙ by-plan
+pub returns-in_err-plan_of : goal.returns-in_err-plan_of
+returns-in_err-plan_of c =
+    let p = err_from_is_err_and c.from_residual.result c.from_residual.ensures.1 in
+    rw (p.1, p.2) (by-plan (goal.at.returns-in_err-plan_of c).After-plan_of c.in_err-plan_of.ensures)
 
-  changed : plan.unchanged ≡ false → (left joined : List Slot) → records_in left ≡ leave_records (records_in rs) plan.leaving → records_in joined ≡ join_records (records_in left) cookie.0
-      → stepped plan.step (records_in joined) ≡ answer_step request short cookie.0 (records_in rs)
-  changed u left joined e f =
-      rw (f, e)
-      (sym (ap (λ (b : Bool). stepped plan.step (cond b (records_in rs) (join_records (leave_records (records_in rs) plan.leaving) cookie.0))) u) ∙ by-plan)
+pub returns-in-Basic : goal.returns-in-Basic
+returns-in-Basic c = by-plan (goal.at.returns-in-Basic c).After-plan_of (rw c.in-Basic.is at c.in_ok-plan_of.ensures)
 
-pub returns-then-plan : goal.returns-then-plan
-returns-then-plan c =
-    stayed c.args.records.now c.args.request c.args.short c.args.fresh_cookie c.asked_cookie.result c.wrong-is_wrong.result c.find-fresh_at.result c.find-at.result c.time-time.result c.plan_of-plan.result
-    c.wrong-is_wrong.ensures c.find-fresh_at.ensures c.asked_cookie.ensures c.find-at.ensures c.time-time.ensures c.plan_of-plan.ensures c.if-plan.true
-
-pub returns : goal.returns
-returns c =
-    changed c.args.records.now c.args.request c.args.short c.args.fresh_cookie c.asked_cookie.result c.wrong-is_wrong.result c.find-fresh_at.result c.find-at.result c.time-time.result c.plan_of-plan.result
-    c.wrong-is_wrong.ensures c.find-fresh_at.ensures c.asked_cookie.ensures c.find-at.ensures c.time-time.ensures c.plan_of-plan.ensures c.if-plan.false
-    c.leave.new.records c.join.new.records c.leave.ensures c.join.ensures
+pub returns-in-Interleaved : goal.returns-in-Interleaved
+returns-in-Interleaved c =
+    ap (stepped (record { refusal = 0; saved = c.in-Interleaved.saved })) c.replace.ensures
+    ∙ by-plan (goal.at.returns-in-Interleaved c).After-plan_of (rw c.in-Interleaved.is at c.in_ok-plan_of.ensures)

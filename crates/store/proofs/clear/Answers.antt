@@ -16,4 +16,4 @@ unfolding cleared
 returns c =
     let s = c.args.store.now in
     let e = sym c.wrong_size.ensures ∙ c.if-wrong_size.false in
-    rw e (ap (λ (l : List ℕ). (0, l)) (c.zero.ensures ∙ clear-all s (right-size s e).2))
+    rw e (ap (λ (l : List ℕ). (0, l)) (c.fill.ensures.after (λ y e. e) ∙ clear-all s (right-size s e).2))

@@ -23,13 +23,13 @@ returns-then-at-store c =
     let b : Octets c.args.store.now = search rules in
     report-absent _ _ _ (sym c.wrong.ensures ∙ c.if-wrong.false) c.if-time-eq0.false b c.if-cookie-eq0.false _ c.find-at.ensures c.if-at-store.true
 
-pub returns-then-get64-ne0 : goal.returns-then-get64-ne0
-returns-then-get64-ne0 c =
+pub returns-then-get-ne0 : goal.returns-then-get-ne0
+returns-then-get-ne0 c =
     let b : Octets c.args.store.now = search rules in
-    report-again _ _ _ (sym c.wrong.ensures ∙ c.if-wrong.false) c.if-time-eq0.false b c.if-cookie-eq0.false _ c.find-at.ensures c.if-at-store.false _ c.get64.ensures c.if-get64-ne0.true
+    report-again _ _ _ (sym c.wrong.ensures ∙ c.if-wrong.false) c.if-time-eq0.false b c.if-cookie-eq0.false _ c.find-at.ensures c.if-at-store.false _ c.get.ensures c.if-get-ne0.true
 
 pub returns : goal.returns
 returns c =
     let b : Octets c.args.store.now = search rules in
-    ap (λ (l : List ℕ). (0, l)) c.put64.ensures
-    ∙ report-done _ _ _ (sym c.wrong.ensures ∙ c.if-wrong.false) c.if-time-eq0.false b c.if-cookie-eq0.false _ c.find-at.ensures c.if-at-store.false _ c.get64.ensures c.if-get64-ne0.false
+    ap (λ (l : List ℕ). (0, l)) c.put.ensures
+    ∙ report-done _ _ _ (sym c.wrong.ensures ∙ c.if-wrong.false) c.if-time-eq0.false b c.if-cookie-eq0.false _ c.find-at.ensures c.if-at-store.false _ c.get.ensures c.if-get-ne0.false

@@ -8,6 +8,7 @@ use Rattle.store_check.proofs.same_cookie.Goals as goal
 pub returns : goal.returns
 returns c =
     let a = c.args in
-    let o : Octets a.store.now = λ i. (c.type_inv.store i).fits in
+    let o : Octets a.a.now = λ i. (c.type_inv.a i).fits in
+    let p : Octets a.b.now = λ i. (c.type_inv.b i).fits in
     ap₂ ◌&&◌ c.same_half.ensures c.same_half-2.ensures
-    ∙ sym (same-halves a.store.now a.store.now a.a a.b 4 4 o o)
+    ∙ sym (same-halves a.a.now a.b.now 0 0 4 4 o p)

@@ -4,4 +4,4 @@ use Rattle.store_rules.proofs.Sames.{same-four}
 use Rattle.store_check.proofs.same_half.Goals as goal
 
 pub returns : goal.returns
-returns c = sym (same-four _ _ _ _ (λ i. (c.type_inv.store i).fits) (λ i. (c.type_inv.store i).fits))
+returns c = sym (same-four _ _ _ _ (λ i. (c.type_inv.a i).fits) (λ i. (c.type_inv.b i).fits))

@@ -1,40 +1,41 @@
-use mathlib.Core.Path.{refl, sym, ◌∙◌}
+use mathlib.Core.Path.{◌≡◌, sym, ap, ◌∙◌}
 use mathlib.Core.Bool.{true, false}
-use Prim.Native.Nat.{◌+◌}
 use native.Mathlib.Omega.{arith}
+use lib.ListN.{drop}
 use Rattle.octets.proofs.Numbers.{got}
-use Rattle.store_rules.proofs.Walks.{unused-next, unused-end}
+use Rattle.octets.proofs.Parts.{take_rest}
+use Rattle.store_rules.specs.Row.{all_unused, records_of}
+use Rattle.store_rules.proofs.Walks.{of_rest, unused_chunk, unused_chunk_end}
 use Rattle.store_check.proofs.unused_from.Goals as goal
 
-pub loop-at-init : goal.loop-at-init
-loop-at-init c = (omega arith, omega arith, refl)
-
-pub overflow_add-at : goal.overflow_add-at
-overflow_add-at c = omega arith
-
-pub returns-then-get64 : goal.returns-then-get64
-returns-then-get64 c =
-    let l = c.loop-at in
+pub loop-record-init : goal.loop-record-init
+loop-record-init c =
     let s = c.args.store.now in
-    let a = got s l.at 8 _ (omega arith) c.get64.ensures in
-    let b = got s (l.at + 8) 8 _ (omega arith) c.get64-in-loop-at.ensures in
-    sym (l.invariant.2 ∙ unused-next s l.at _ _ true (omega arith) a b c.if-get64.true)
+    let i = c.into_iter-record-iterator.ensures.into_iter_gives in
+    let k = c.chunks_exact-record-items.ensures in
+    let e : c.into_iter-record-iterator.result.rest.now ≡ drop c.args.from s = rw i (k.rest ∙ take_rest s c.args.from) in
+    (rw i k.size, ap all_unused (sym (of_rest s c.args.from) ∙ ap records_of (sym e)))
 
-pub overflow_add-at-in-loop-at : goal.overflow_add-at-in-loop-at
-overflow_add-at-in-loop-at c = omega arith
+pub returns-then-get : goal.returns-then-get
+returns-then-get c =
+    let i = c.loop-record.invariant in
+    let k = c.in-Some.ensures.steps.1 in
+    let x = c.in-Some.record.now in
+    let a = got x 0 8 _ (omega (arith, k.1, i.0)) c.get.ensures in
+    let b = got x 8 8 _ (omega (arith, k.1, i.0)) c.get-in-loop-record.ensures in
+    sym (i.1 ∙ unused_chunk _ x _ _ _ true k.0 (k.1 ∙ i.0) a b c.if-get.true)
 
-pub loop-at-smaller : goal.loop-at-smaller
-loop-at-smaller c = omega arith
-
-pub loop-at-preserved : goal.loop-at-preserved
-loop-at-preserved c =
-    let l = c.loop-at in
-    let s = c.args.store.now in
-    let a = got s l.at 8 _ (omega arith) c.get64.ensures in
-    let b = got s (l.at + 8) 8 _ (omega arith) c.get64-in-loop-at.ensures in
-    (omega arith, omega arith, l.invariant.2 ∙ unused-next s l.at _ _ false (omega arith) a b c.if-get64.false)
+pub loop-record-preserved : goal.loop-record-preserved
+loop-record-preserved c =
+    let i = c.loop-record.invariant in
+    let k = c.in-Some.ensures.steps.1 in
+    let x = c.in-Some.record.now in
+    let a = got x 0 8 _ (omega (arith, k.1, i.0)) c.get.ensures in
+    let b = got x 8 8 _ (omega (arith, k.1, i.0)) c.get-in-loop-record.ensures in
+    (c.in-Some.ensures.steps.0 ∙ i.0, i.1 ∙ unused_chunk _ x _ _ _ false k.0 (k.1 ∙ i.0) a b c.if-get.false)
 
 pub returns : goal.returns
 returns c =
-    let l = c.loop-at in
-    sym (l.invariant.2 ∙ unused-end c.args.store.now l.at (omega arith))
+    let i = c.loop-record.invariant in
+    let short = c.in-None.ensures.steps.1.0 in
+    sym (i.1 ∙ unused_chunk_end c.loop-record.record-iterator.rest.now (omega (arith, short, i.0)))

@@ -1,13 +1,11 @@
--- `find` meets its contract: the place looked for from `at` on is the one looked for from the start on. Assumes nothing.
+-- `find` meets its contract: the records up to `at` are passed, and what is left to look at tells the place. Assumes nothing.
 use mathlib.Core.Path.{◌≡◌}
-use Prim.Native.Nat.{◌-◌}
+use Prim.Native.Nat.{◌+◌, ◌*◌}
 use lib.ListN.{length}
-use Rattle.store_rules.specs.Place.{place_of}
-use Rattle.store_rules.proofs.Walks.{place_from}
+use Rattle.store_rules.specs.Row.{records_of}
+use Rattle.store_rules.specs.Place.{index_of, place_of}
 use Rattle.store_row.proofs.find.Given as goal
 
-abbrev pub invariant-loop-cookie : goal.invariant-loop-cookie
-invariant-loop-cookie l = place_of l.store l.cookie.0 ≡ place_from l.store l.cookie.0 l.at
-
-abbrev pub decreases-loop-cookie : goal.decreases-loop-cookie
-decreases-loop-cookie l = length l.store - l.at
+abbrev pub invariant-loop-record : goal.invariant-loop-record
+invariant-loop-record l =
+    (l.record-iterator.size ≡ 16) × (l.at + length l.record-iterator.rest.now ≡ length l.store) × (place_of l.store l.cookie.0 ≡ l.at + 16 * index_of l.cookie.0 (records_of l.record-iterator.rest.now))

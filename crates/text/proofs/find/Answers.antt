@@ -1,24 +1,17 @@
-use Rattle.std.proofs.Common.{ℕ, eqb, sym, refl, ap, ◌∙◌}
-use mathlib.Core.Bool.{beq}
-use Rattle.text.proofs.Places.{onward-pass, place_here, place_end}
+-- `find` meets its contract: the place is where the first such octet stands. Assumes nothing.
+use Rattle.std.proofs.Common.{◌<◌, ◌+◌, length, sym, ◌∙◌, arith}
+use Rattle.text.proofs.Places.{place_here, place_end}
 use Rattle.text.proofs.find.Goals as goal
 
-pub loop-i-init : goal.loop-i-init
-loop-i-init c = refl
-
-pub returns-then-plain-octet : goal.returns-then-plain-octet
-returns-then-plain-octet c =
+pub overflow_add-result : goal.overflow_add-result
+overflow_add-result c =
     let a = c.args in
-    place_here a.octet a.same a.text.now a.at c.loop-i.i c.loop-i-test.true
-    (ap (λ (x : ℕ). beq (eqb x a.octet) a.same) (sym c.plain.ensures) ∙ c.if-plain-octet.true) c.loop-i.invariant
+    let h : a.at + c.in-Some.i < length a.text.now = (place_here _ _ _ _ _ c.rest.ensures _ (sym c.in-Some.is ∙ c.first.ensures)).0 in
+    omega arith
 
-pub loop-i-preserved : goal.loop-i-preserved
-loop-i-preserved c =
-    let a = c.args in
-    onward-pass a.octet a.same a.text.now c.loop-i.i c.loop-i-test.true
-    (ap (λ (x : ℕ). beq (eqb x a.octet) a.same) (sym c.plain.ensures) ∙ c.if-plain-octet.false) ∙ c.loop-i.invariant
+pub returns-in-Some : goal.returns-in-Some
+returns-in-Some c =
+    (place_here _ _ _ _ _ c.rest.ensures _ (sym c.in-Some.is ∙ c.first.ensures)).1
 
-pub returns : goal.returns
-returns c =
-    let a = c.args in
-    place_end a.octet a.same a.text.now a.at c.loop-i.i c.loop-i-test.false c.loop-i.invariant
+pub returns-in-None : goal.returns-in-None
+returns-in-None c = place_end _ _ _ _ _ c.rest.ensures (sym c.in-None.is ∙ c.first.ensures)

@@ -5,6 +5,3 @@ use Rattle.text.proofs.piece.Given as goal
 
 abbrev pub invariant-loop-k : goal.invariant-loop-k
 invariant-loop-k l = piece_from l.separator (l.number - l.k) (drop l.at l.text) ≡ piece_of l.text l.number l.separator
-
-abbrev pub decreases-loop-k : goal.decreases-loop-k
-decreases-loop-k l = l.number - l.k

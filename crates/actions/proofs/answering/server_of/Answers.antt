@@ -7,14 +7,14 @@ use Rattle.actions.proofs.answering.server_of.Goals as goal
 pub returns : goal.returns
 returns c =
     λ i. record {
-      leap = c.u8_at-leap.ensures i;
-      stratum = c.u8_at-stratum.ensures i;
-      poll = (to_z-of_z {w = w8} (record { sfits = c.i8_at-poll.type_inv }) ∙ c.i8_at-poll.ensures) i;
-      precision = (to_z-of_z {w = w8} (record { sfits = c.i8_at-precision.type_inv }) ∙ c.i8_at-precision.ensures) i;
-      timescale = c.u8_at-timescale.ensures i;
-      era = c.u8_at-era.ensures i;
-      timescale_offset = (to_z-of_z {w = w16} (record { sfits = c.i16_at-timescale_offset.type_inv }) ∙ c.i16_at-timescale_offset.ensures) i;
-      flags = c.u16_at-flags.ensures i;
-      root_delay = c.u32_at-root_delay.ensures i;
-      root_dispersion = c.u32_at-root_dispersion.ensures i;
+      leap = c.bits_at.ensures i;
+      stratum = c.bits_at-2.ensures i;
+      poll = (to_z-of_z {w = w8} (record { sfits = c.i8_at.type_inv }) ∙ c.i8_at.ensures) i;
+      precision = (to_z-of_z {w = w8} (record { sfits = c.i8_at-2.type_inv }) ∙ c.i8_at-2.ensures) i;
+      timescale = c.bits_at-3.ensures i;
+      era = c.bits_at-4.ensures i;
+      timescale_offset = (to_z-of_z {w = w16} (record { sfits = c.i16_at.type_inv }) ∙ c.i16_at.ensures) i;
+      flags = c.bits_at-5.ensures i;
+      root_delay = c.bits_at-6.ensures i;
+      root_dispersion = c.bits_at-7.ensures i;
     }

@@ -1,11 +1,31 @@
--- `apply` meets its contract: the size says which case holds. Assumes nothing.
+-- `apply` meets its contract: the size says which case holds, and a refusal stores nothing. Assumes nothing.
 use mathlib.Core.Path.{◌∙◌}
-use Rattle.association.proofs.Records.{wrong_size, right-size}
+use borrow.Author.Tests.{eqb-false}
+use Rattle.std.specs.Prelude.{Ok, Err}
+use Rattle.std.proofs.lemmas.Result.{err_from_is_err_and}
+use Rattle.state.specs.Code.{changed_as}
+use Rattle.state.proofs.Changes.{refusal-number}
+use Rattle.association.proofs.Records.{wrong_size, right-size, refused, stored}
 use Rattle.association.proofs.record.apply.Goals as goal
+use mathlib.Core.Path.{refl}
 
 pub returns-then-numbers-ne-NUMBERS : goal.returns-then-numbers-ne-NUMBERS
-returns-then-numbers-ne-NUMBERS c = let a = c.args in rw c.plain_reply.ensures (wrong_size a.event a.datagram.now a.numbers.now c.if-numbers-ne-NUMBERS.true)
+returns-then-numbers-ne-NUMBERS c = wrong_size _ _ _ c.if-numbers-ne-NUMBERS.true
+
+pub returns-in_err-change : goal.returns-in_err-change
+returns-in_err-change c =
+    let a = c.args in
+    let e = c.in_err-change.field-0.0 in
+    let h = c.load-h.result in
+    let p = err_from_is_err_and c.from_residual.result c.from_residual.ensures.1 in
+    rw (p.1, p.2)
+    (refused (changed_as (Err e) h) h a.datagram.now a.numbers.now (eqb-false _ _ (refusal-number e))
+    ∙ right-size _ _ _ h c.if-numbers-ne-NUMBERS.false c.load-h.ensures (changed_as (Err e) h) c.in_err-change.ensures)
 
 pub returns : goal.returns
 returns c =
-    c.put.ensures ∙ right-size _ _ _ _ c.if-numbers-ne-NUMBERS.false c.load-h.ensures _ c.change_of-change.ensures
+    let a = c.args in
+    let h = c.load-h.result in
+    let d = changed_as (Ok c.in_ok-change.change) h in
+    stored d h a.datagram.now a.numbers.now refl _ _ c.store.ensures c.fill.ensures
+    ∙ right-size _ _ _ h c.if-numbers-ne-NUMBERS.false c.load-h.ensures d c.in_ok-change.ensures

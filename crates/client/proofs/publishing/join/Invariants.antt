@@ -1,6 +1,6 @@
 -- `join` meets its contract: the filters from association a on are left to unite. Assumes nothing.
 use mathlib.Core.Path.{◌≡◌}
-use Prim.Native.Nat.{◌-◌, ◌≤◌, ◌/◌, ◌^◌}
+use Prim.Native.Nat.{◌-◌}
 use lib.ListN.{length}
 use Rattle.word_rules.specs.Words.{octets_of}
 use Rattle.filter_rules.specs.Filter.{fresh_filter}
@@ -10,7 +10,4 @@ use Rattle.client_rules.specs.Select.{filters_of}
 use Rattle.client.proofs.publishing.join.Given as goal
 
 abbrev pub invariant-loop-a : goal.invariant-loop-a
-invariant-loop-a l = (l.a ≤ 16) × (l.rest ≡ l.selected / 2 ^ l.a) × (length l.joined ≡ 64) × (joined (filters_of (seen_numbers l.table)) (octets_of l.joined) (selected_from l.selected (16 - l.a) l.a) ≡ joined (filters_of (seen_numbers l.table)) fresh_filter (selected_associations l.selected))
-
-abbrev pub decreases-loop-a : goal.decreases-loop-a
-decreases-loop-a l = 16 - l.a
+invariant-loop-a l = (length l.joined ≡ 64) × (joined (filters_of (seen_numbers l.table)) (octets_of l.joined) (selected_from l.selected (16 - l.a) l.a) ≡ joined (filters_of (seen_numbers l.table)) fresh_filter (selected_associations l.selected))

@@ -3,16 +3,12 @@ use Rattle.client.proofs.Lent.{bad-size, bad-number, part-back}
 use Rattle.client.proofs.table.apply.Goals as goal
 
 pub returns-then-table-ne-NUMBERS : goal.returns-then-table-ne-NUMBERS
-returns-then-table-ne-NUMBERS c =
-    let a = c.args in
-    rw c.plain_reply.ensures (bad-size a.association a.event a.datagram.now a.table.now c.if-table-ne-NUMBERS.true)
+returns-then-table-ne-NUMBERS c = let a = c.args in bad-size a.association _ a.datagram.now a.table.now c.if-table-ne-NUMBERS.true
 
 pub returns-then-association-gt15 : goal.returns-then-association-gt15
-returns-then-association-gt15 c =
-    let a = c.args in
-    rw c.plain_reply-then-association-gt15.ensures (bad-number a.association a.event a.datagram.now a.table.now c.if-table-ne-NUMBERS.false c.if-association-gt15.true)
+returns-then-association-gt15 c = let a = c.args in bad-number a.association _ a.datagram.now a.table.now c.if-table-ne-NUMBERS.false c.if-association-gt15.true
 
 pub returns : goal.returns
 returns c =
     let a = c.args in
-    part-back a.association a.event a.datagram.now a.table.now c.if-table-ne-NUMBERS.false _ _ c.if-association-gt15.false c.apply.ensures
+    part-back a.association _ a.datagram.now a.table.now c.if-table-ne-NUMBERS.false _ _ c.if-association-gt15.false c.apply.ensures

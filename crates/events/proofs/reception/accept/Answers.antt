@@ -1,8 +1,8 @@
--- `accept` meets its contract: the test says whether a chunk is taken, and a chunk is whole words. Assumes nothing.
-use mathlib.Core.Path.{sym, ◌∙◌}
-use borrow.Author.Tests.{eq-eqb, ne_eqb}
-use Rattle.state.proofs.Ranges.{open-ranges, asked-ranges, whole_words}
+-- `accept` meets its contract: a chunk is taken from where its data start, and is whole words. Assumes nothing.
+use native.Mathlib.Omega.{arith}
+use Rattle.state.proofs.Ranges.{open-ranges, asked-ranges, whole_words, sums-fit}
 use Rattle.state.proofs.Numbers.{count-onward}
+use Rattle.events.proofs.Placed.{started}
 use Rattle.events.proofs.reception.accept.Goals as goal
 
 pub reply_to-reply-requires : goal.reply_to-reply-requires
@@ -11,12 +11,16 @@ reply_to-reply-requires c = (open-ranges c.args.h c.requires.0 c.requires.1).sav
 pub used_head-used-requires : goal.used_head-used-requires
 used_head-used-requires c = (open-ranges c.args.h c.requires.0 c.requires.1).edition
 
-pub returns-then-outcome_of-eq1 : goal.returns-then-outcome_of-eq1
-returns-then-outcome_of-eq1 c =
+pub returns : goal.returns
+returns c =
     let o = open-ranges c.args.h c.requires.0 c.requires.1 in
     let q = asked-ranges c.args.h o.request c.requires.2 in
     let w = whole_words c.args.h o q in
-    record { leaves = λ datagram f. rw (w.offset, w.chunk, eq-eqb _ _ (sym c.outcome_of.ensures ∙ c.if-outcome_of-eq1.true), c.reply_to-reply.ensures, c.used_head-used.ensures, c.requires.3, c.requires.4, count-onward c.args.h o q.offset) }
+    let s = started _ c.in-Some.ensures in
+    record { leaves = λ datagram f. rw (w.offset, w.chunk, s.0, s.1, c.reply_to-reply.ensures, c.used_head-used.ensures, c.advance.ensures, c.taken_after.ensures, count-onward c.args.h o q.offset) }
 
-pub returns : goal.returns
-returns c = record { leaves = λ datagram f. rw (ne_eqb _ _ (λ e. c.if-outcome_of-eq1.false (c.outcome_of.ensures ∙ e)), c.reply_to-reply.ensures, c.used_head-used.ensures) }
+pub advance-requires : goal.advance-requires
+advance-requires c = let s = sums-fit c.args.h c.requires.0 in omega arith
+
+pub taken_after-requires : goal.taken_after-requires
+taken_after-requires c = let s = sums-fit c.args.h c.requires.0 in omega arith

@@ -1,34 +1,55 @@
 -- `receive` meets its contract: the tests say which case holds. Assumes nothing.
-use mathlib.Core.Path.{◌≡◌, refl, ◌∙◌}
-use borrow.Author.Tests.{eq-eqb, ne_eqb, eqb-false}
-use Rattle.state.specs.Plain.{Place, refuse_at, place_do}
-use Rattle.state.specs.declared.event.Event.TheVariants.{Receive}
-use Rattle.state.proofs.Changes.{by_place, refused, done}
-use Rattle.events.proofs.Placed.{asked}
+use mathlib.Core.Path.{◌≡◌, refl, sym, ap, ◌∙◌}
+use mathlib.Core.Bool.{Bool, true, false, not, ◌||◌}
+use lib.Dec.{eqb}
+use borrow.Author.Tests.{ne_eqb, eqb-false}
+use Rattle.std.proofs.lemmas.Result.{err_from_is_err_and}
+use Rattle.exchange.specs.Response.{response_as}
+use Rattle.state.proofs.Changes.{refused, refusal-number, done}
+use Rattle.events.proofs.Placed.{asked, untimed, not-open, unread}
 use Rattle.octets.proofs.Tests.{or-none}
 use Rattle.events.proofs.reception.receive.Goals as goal
+use Rattle.events.proofs.reception.receive.Goals.{Then-h-ne, Else-h-ne}
 
-pub returns-then-r-eq0 : goal.returns-then-r-eq0
-unfolding place_do
-returns-then-r-eq0 c = let a = c.args in refused 6 c.refuse.ensures refl
-    (λ datagram f. by_place (λ (p : Place). place_do (Receive a.r) datagram p ≡ refuse_at 6 p) a.h f (rw (eq-eqb _ _ c.if-r-eq0.true)) (rw (eq-eqb _ _ c.if-r-eq0.true)))
+pub returns-then-t4-eq0 : goal.returns-then-t4-eq0
+returns-then-t4-eq0 c = let a = c.args in refused 6 refl refl (λ datagram f. untimed a.response a.t4 a.h datagram f c.if-t4-eq0.true)
 
 pub returns-then-h-eq0 : goal.returns-then-h-eq0
-unfolding place_do
-returns-then-h-eq0 c = refused 7 c.refuse-then-h-eq0.ensures refl (λ datagram f. rw (eq-eqb _ _ c.if-h-eq0.true, ne_eqb _ _ c.if-r-eq0.false))
+returns-then-h-eq0 c = let a = c.args in refused 7 refl refl (λ datagram f. not-open a.response a.t4 a.h datagram f c.if-t4-eq0.false c.if-h-eq0.true)
 
-pub returns-then-r-ne0 : goal.returns-then-r-ne0
-unfolding place_do
-returns-then-r-ne0 c = refused _ c.refuse-then-r-ne0.ensures (ne_eqb _ _ c.if-r-ne0.true) (λ datagram f. rw (ne_eqb _ _ c.if-h-eq0.false, ne_eqb _ _ c.if-r-eq0.false, ne_eqb _ _ c.if-r-ne0.true))
+pub returns-in_err-r : goal.returns-in_err-r
+returns-in_err-r c =
+    let a = c.args in
+    let e = c.in_err-r.field-0.0 in
+    let p = err_from_is_err_and c.from_residual.result c.from_residual.ensures.1 in
+    rw (p.1, p.2, c.in_err-r.was) (refused _ refl (refusal-number e) (λ datagram f. unread e a.t4 a.h datagram f c.if-t4-eq0.false c.if-h-eq0.false))
 
-pub returns-then-h-client : goal.returns-then-h-client
-returns-then-h-client c = let a = c.args in refused 9 c.refuse-then-h-client.ensures refl (λ datagram f. asked a.r a.h datagram f c.if-r-eq0.false c.if-h-eq0.false c.if-r-ne0.false ∙ rw (c.if-h-client.true, ne_eqb _ _ c.if-h-eq0.false))
+-- the test of the request and its cookie, in numbers
+other_request : (c : Then-h-ne) → eqb c.args.h.outstanding 0 || not (eqb c.in_ok-r.r.client.0 c.args.h.last.0) ≡ true
+other_request c = ap (λ (b : Bool). eqb c.args.h.outstanding 0 || b) (sym c.ne.ensures) ∙ c.if-h-ne.true
+
+same-request : (c : Else-h-ne) → eqb c.args.h.outstanding 0 || not (eqb c.in_ok-r.r.client.0 c.args.h.last.0) ≡ false
+same-request c = ap (λ (b : Bool). eqb c.args.h.outstanding 0 || b) (sym c.ne.ensures) ∙ c.if-h-ne.false
+
+pub returns-then-h-ne : goal.returns-then-h-ne
+returns-then-h-ne c =
+    let a = c.args in
+    rw c.in_ok-r.was
+    (refused 9 refl refl (λ datagram f. asked (response_as c.in_ok-r.r a.t4) a.h datagram f c.if-t4-eq0.false c.if-h-eq0.false refl ∙ rw (other_request c, ne_eqb _ _ c.if-h-eq0.false)))
 
 pub returns-then-r-server : goal.returns-then-r-server
-returns-then-r-server c = let a = c.args in refused 10 c.refuse-then-r-server.ensures refl (λ datagram f. asked a.r a.h datagram f c.if-r-eq0.false c.if-h-eq0.false c.if-r-ne0.false ∙ rw (c.if-h-client.false, c.if-r-server.true, ne_eqb _ _ c.if-h-eq0.false))
+returns-then-r-server c =
+    let a = c.args in
+    rw c.in_ok-r.was
+    (refused 10 refl refl (λ datagram f. asked (response_as c.in_ok-r.r a.t4) a.h datagram f c.if-t4-eq0.false c.if-h-eq0.false refl
+    ∙ rw (same-request (goal.at.returns-then-r-server c).Else-h-ne, c.if-r-server.true, ne_eqb _ _ c.if-h-eq0.false)))
 
 pub accept-requires : goal.accept-requires
-accept-requires c = let p = c.requires in (p.0, c.if-h-eq0.false, eqb-false _ _ (or-none _ _ c.if-h-client.false).0, p.1, p.2)
+accept-requires c = (c.requires, c.if-h-eq0.false, eqb-false _ _ (or-none _ _ c.if-h-ne.false).0)
 
 pub returns : goal.returns
-returns c = let a = c.args in done c.accept.ensures (λ datagram f. asked a.r a.h datagram f c.if-r-eq0.false c.if-h-eq0.false c.if-r-ne0.false ∙ rw (c.if-h-client.false, c.if-r-server.false)) refl
+returns c =
+    let a = c.args in
+    rw c.in_ok-r.was
+    (done c.accept.ensures (λ datagram f. asked (response_as c.in_ok-r.r a.t4) a.h datagram f c.if-t4-eq0.false c.if-h-eq0.false refl
+    ∙ rw (same-request (goal.at.returns c).Else-h-ne, c.if-r-server.false)) refl)

@@ -13,10 +13,10 @@ unfolding header_put put_all
 returns c =
     let h = c.args.h in
     let s = c.args.s.now in
-    let e0 = c.put64.ensures ∙ ap (λ (xs : List ℕ). overwrite s 0 xs 8) c.opening-opening.ensures in
-    let e1 = then-put 8 4 h.root_delay e0 c.put32.ensures in
-    let e2 = then-put 12 4 h.root_dispersion e1 c.put32-2.ensures in
-    let e3 = then-put 16 8 h.server_cookie.0 e2 c.put64-2.ensures in
-    let e4 = then-put 24 8 h.client_cookie.0 e3 c.put64-3.ensures in
-    let e5 = then-put 32 8 h.receive e4 c.put64-4.ensures in
-    then-put 40 8 h.transmit e5 c.put64-5.ensures
+    let e0 = c.put.ensures ∙ ap (λ (xs : List ℕ). overwrite s 0 xs 8) c.opening-opening.ensures in
+    let e1 = then-put 8 4 h.root_delay e0 c.put-2.ensures in
+    let e2 = then-put 12 4 h.root_dispersion e1 c.put-3.ensures in
+    let e3 = then-put 16 8 h.server_cookie.0 e2 c.put-4.ensures in
+    let e4 = then-put 24 8 h.client_cookie.0 e3 c.put-5.ensures in
+    let e5 = then-put 32 8 h.receive e4 c.put-6.ensures in
+    then-put 40 8 h.transmit e5 c.put-7.ensures

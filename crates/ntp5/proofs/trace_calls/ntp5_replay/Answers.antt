@@ -14,6 +14,7 @@ use Rattle.trace_rules.proofs.Faults.{end-no-call, call-room}
 use Rattle.c_structs.specs.Replayed.{replay_left}
 use Rattle.ntp5.proofs.Replaying.{call-made, none_made, past_end}
 use Rattle.ntp5.proofs.trace_calls.ntp5_replay.Goals as goal
+use Rattle.ntp5.proofs.trace_calls.ntp5_replay.Goals.{In-Call}
 
 pub returns-then-trace-at : goal.returns-then-trace-at
 returns-then-trace-at c =
@@ -34,20 +35,19 @@ returns-in_default c =
     let a = c.args in
     none_made a.trace.now a.at a.out.now a.table.now c.read-found.result _ (found a.trace.now a.at _ c.read-found.ensures) c.in_default.not-Call c.not_made-in_default.ensures
 
+-- so is the record whose call is made
+room-here : (c : In-Call) → c.args.at + (head_length + c.in-Call.record.size) ≤ length c.args.trace.now
+room-here c = room c.args.trace.now c.args.at _ c.read-found.ensures c.in-Call.record (omega (arith, c.if-trace-at.false)) c.in-Call.is
+
 pub overflow_add-end : goal.overflow_add-end
-overflow_add-end c =
-    let a = c.args in
-    record { fits = omega (arith, room a.trace.now a.at _ c.read-found.ensures c.in-Call.record (omega arith) c.in-Call.is) }
+overflow_add-end c = record { fits = omega (arith, room-here (goal.at.overflow_add-end c).In-Call) }
 
 pub overflow_add-next : goal.overflow_add-next
-overflow_add-next c =
-    let a = c.args in
-    record { fits = omega (arith, room a.trace.now a.at _ c.read-found.ensures c.in-Call.record (omega arith) c.in-Call.is) }
+overflow_add-next c = record { fits = omega (arith, room-here (goal.at.overflow_add-next c).In-Call) }
 
 pub slice_bounds-make-end : goal.slice_bounds-make-end
 slice_bounds-make-end c =
-    let a = c.args in
-    simp (length-take, length-drop) (omega (arith, room a.trace.now a.at _ c.read-found.ensures c.in-Call.record (omega arith) c.in-Call.is))
+    simp (length-take, length-drop) (omega (arith, room-here (goal.at.slice_bounds-make-end c).In-Call))
 
 pub returns : goal.returns
 returns c =

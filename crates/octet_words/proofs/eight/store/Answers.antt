@@ -1,7 +1,8 @@
--- `store`: 4 octets and then 4 octets.
-use Rattle.octet_words.proofs.Storing.{store-halves}
+-- `store`: the library's bytes of a word, lowest first, are its octets.
+use mathlib.Core.Path.{◌∙◌}
+use native.Mathlib.Omega.{arith}
+use Rattle.octet_words.proofs.Storing.{stored}
 use Rattle.octet_words.proofs.eight.store.Goals as goal
 
 pub returns : goal.returns
-returns c =
-    store-halves c.args.s.now _ _ c.args.at 4 c.args.w c.requires c.store4.ensures c.store4-2.ensures
+returns c = stored _ _ _ _ _ (c.copy_from_slice.ensures.after ∙ c.to_le_bytes.ensures) (omega arith)

@@ -18,7 +18,7 @@ overflow_add-at c =
 pub returns-then-wants_interleaved : goal.returns-then-wants_interleaved
 returns-then-wants_interleaved c =
     let b : Octets c.args.store.now = search rules in
-    c.get64.ensures
+    c.get.ensures
     ∙ ap (λ (p : ℕ). get_at c.args.store.now (p + 8) 8) c.find-at.ensures
     ∙ time-there c.args.store.now b c.requires c.args.asked.server_cookie.0
     ∙ sym (rw (sym c.wants_interleaved.ensures ∙ c.if-wants_interleaved.true))

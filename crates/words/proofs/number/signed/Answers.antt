@@ -1,18 +1,21 @@
 -- `signed` meets its contract: the first octet tells the sign. Assumes nothing.
-use Rattle.std.proofs.Common.{ℕ, ◌+◌, ap, ◌∙◌, arith}
-use Rattle.words.specs.Numeral.{value, negated, unsigned_of}
-use Rattle.words.proofs.Numerals.{signed-plain, signed-minus, wrapped}
+use Rattle.std.proofs.Common.{◌∙◌, arith}
+use Rattle.words.proofs.Numerals.{signed-plain, signed-minus}
 use Rattle.words.proofs.number.signed.Goals as goal
 
-pub returns-then-get8-ne45 : goal.returns-then-get8-ne45
-returns-then-get8-ne45 c =
+pub returns-in_default : goal.returns-in_default
+returns-in_default c =
     let a = c.args in
-    c.unsigned.ensures ∙ signed-plain a.word.now a.most _ c.get8.ensures c.if-get8-ne45.true
+    c.unsigned.ensures ∙ signed-plain a.most a.word.now c.in_default.ensures.cases
 
-pub returns : goal.returns
-returns c =
+pub returns-in-Ok : goal.returns-in-Ok
+returns-in-Ok c =
     let a = c.args in
-    let v = c.unsigned-size.result in
-    let e = wrapped c.wrapping_sub_u64.result v.value (omega arith) (omega arith) c.wrapping_sub_u64.ensures.value in
-    ap (λ (n : ℕ). value n v.problem) e ∙ ap negated (c.unsigned-size.ensures ∙ ap (unsigned_of (a.most + 1)) c.rest.ensures)
-    ∙ signed-minus a.word.now a.most _ c.get8.ensures c.if-get8-ne45.false
+    let h = c.in-Some.ensures.cases in
+    signed-minus a.most a.word.now _ _ _ h.0 h.1 c.in-Ok.ensures (omega arith) (omega arith) c.wrapping_neg.ensures
+
+pub returns-in-Err : goal.returns-in-Err
+returns-in-Err c =
+    let a = c.args in
+    let h = c.in-Some.ensures.cases in
+    signed-minus a.most a.word.now _ _ _ h.0 h.1 c.in-Err.ensures (omega arith) (omega arith) c.wrapping_neg-in-Err.ensures

@@ -1,16 +1,16 @@
 -- `unsigned` meets its contract: the first two octets tell the base. Assumes nothing.
-use Rattle.std.proofs.Common.{ap, ◌∙◌}
+use Rattle.std.proofs.Common.{◌∙◌, ap}
 use Rattle.words.specs.Numeral.{digits_of}
-use Rattle.words.proofs.Numerals.{unsigned-hex, unsigned-decimal}
+use Rattle.words.proofs.Numerals.{unsigned-hexadecimal, unsigned-decimal}
 use Rattle.words.proofs.number.unsigned.Goals as goal
 
-pub returns-then-get8 : goal.returns-then-get8
-returns-then-get8 c =
+pub returns-in-Some : goal.returns-in-Some
+returns-in-Some c =
     let a = c.args in
-    c.digits.ensures ∙ ap (digits_of 16 a.most) c.rest.ensures
-    ∙ unsigned-hex a.word.now a.most _ _ c.get8.ensures c.get8-2.ensures c.if-get8.true
+    let h = c.in-Some.ensures.cases in
+    c.digits.ensures ∙ ap (digits_of 16 a.most) h.1 ∙ unsigned-hexadecimal a.most a.word.now h.0
 
-pub returns : goal.returns
-returns c =
+pub returns-in-None : goal.returns-in-None
+returns-in-None c =
     let a = c.args in
-    c.digits-2.ensures ∙ unsigned-decimal a.word.now a.most _ _ c.get8.ensures c.get8-2.ensures c.if-get8.false
+    c.digits-in-None.ensures ∙ unsigned-decimal a.most a.word.now c.in-None.ensures.cases

@@ -10,7 +10,7 @@ loop-left-preserved c =
     let a = c.args in (
       search rules,
       search rules,
-      fill-next c.loop-left.buffer _ a.from c.loop-left.left a.octet c.loop-left-test.true c.put8.ensures
+      fill-next c.loop-left.buffer _ a.from c.loop-left.left a.octet c.loop-left-test.true c.put.ensures
           ∙ c.loop-left.invariant.2,
     )
 

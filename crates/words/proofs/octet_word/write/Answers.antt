@@ -1,14 +1,14 @@
 -- `write` meets its contract. Assumes nothing.
-use Rattle.std.proofs.Common.{◌∙◌}
+use Rattle.std.proofs.Common.{◌∙◌, sym}
 use Rattle.words.proofs.Writing.{write-minus, write-all}
 use Rattle.words.proofs.octet_word.write.Goals as goal
 
-pub returns-then-word-get8 : goal.returns-then-word-get8
-returns-then-word-get8 c =
+pub returns-then-same : goal.returns-then-same
+returns-then-same c =
     let a = c.args in
-    write-minus a.word.now a.buffer.now _ c.get8.ensures c.if-word-get8.true
+    write-minus a.word.now a.buffer.now (sym c.same.ensures ∙ c.if-same.true)
 
 pub returns : goal.returns
 returns c =
     let a = c.args in
-    c.write_runs.ensures ∙ write-all a.word.now a.buffer.now _ c.get8.ensures c.if-word-get8.false
+    c.write_runs.ensures ∙ write-all a.word.now a.buffer.now (sym c.same.ensures ∙ c.if-same.false)

@@ -1,2 +1,0 @@
--- What the proofs of the exports use. Assumes nothing.
-pub mod Converted

@@ -1,0 +1,12 @@
+// The types of fields, F-9 to F-19.
+pub const PADDING: u16 = 0xF501;
+
+pub const MAC: u16 = 0xF502;
+
+pub const FILTER_REQUEST: u16 = 0xF503;
+
+pub const FILTER_RESPONSE: u16 = 0xF504;
+
+pub const INFORMATION: u16 = 0xF505;
+
+pub const NAME: u16 = 0xF5FF;

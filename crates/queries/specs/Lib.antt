@@ -1,0 +1,2 @@
+-- The calls that change nothing that they are lent.
+pub mod Rows

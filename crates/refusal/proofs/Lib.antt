@@ -1,0 +1,2 @@
+-- The laws of the refusals' numbers. Assumes nothing.
+pub mod Numbers

@@ -1,0 +1,3 @@
+-- The refusals and their numbers.
+pub mod Refusal
+pub mod Claim

@@ -1,0 +1,2 @@
+-- The records of a trace as the code reads them.
+pub mod Kind

@@ -1,2 +1,0 @@
--- The laws of the window. Assumes nothing.
-pub mod Moves
