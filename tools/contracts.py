@@ -54,6 +54,7 @@ KIT = "the kit's definition is the plain statement: one of specs/ would only ren
 EXEMPT = {
     "actions/src/lib.rt:run": ({*ROW, RESULT_LOST}, PRINTED),
     "changes/src/lib.rt:run": ({*ROW, RESULT_LOST}, PRINTED),
+    "print/src/lib.rt:answered": ({*SILENT_ROW, *map(unnamed, ("said", "octets"))}, PRINTS),
     "print/src/lib.rt:failure": ({*SILENT, *map(unnamed, ("what", "error"))}, PRINTS),
     "print/src/lib.rt:line": ({*SILENT_ROW, *map(unnamed, ("values", "octets"))}, PRINTS),
     "print/src/lib.rt:numbered": ({*SILENT_ROW, *map(unnamed, ("number", "values", "octets"))}, PRINTS),

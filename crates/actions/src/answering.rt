@@ -7,7 +7,6 @@ ghost use Rattle.actions.specs.Kept.{store_answered};
 
 use header::ServerCookie;
 use print::Row;
-use refusal::Refusal;
 use responder::{Given, Server};
 use std::io;
 use std::io::Write;
@@ -32,17 +31,6 @@ fn server_of(line: &[u8]) -> Server
     }
 }
 
-fn show<W: Write>(
-    row: Row<'_, W>,
-    answered: Result<u16, Refusal>,
-    output: &[u8],
-) -> io::Result<()> {
-    match answered {
-        Err(refusal) => row.result(Err(refusal), b""),
-        Ok(length) => row.line(&[0, u64::from(length), 0], output),
-    }
-}
-
 fn answer_to<W: Write>(
     row: Row<'_, W>,
     line: &[u8],
@@ -54,7 +42,7 @@ fn answer_to<W: Write>(
     let mut room = [0u8; 4096];
     let output = octets_of(piece(line, 18, b' '), &mut room);
     let answered = responder::named::answer(store, bits_at(line, 1), given, output);
-    show(row, answered, output)
+    row.answered(answered.map(|length| [0, u64::from(length), 0]), output)
 }
 
 // What an answer is given; the output has a function of its own.

@@ -30,6 +30,7 @@ pub enum Action {
 
 impl Action {
     // The call of the row of this number, from 0 on, if it is one of these.
+    // No `TryFrom`: another number is another library's call and no error.
     pub fn at(row: usize) -> Option<Action>
         ensures { result ≡ action_at row }
     {

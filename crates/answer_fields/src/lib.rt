@@ -18,6 +18,7 @@ use header::edition::Edition;
 use responder_rules::Given;
 
 // Writes what answers a field by its role, and answers the place after it.
+// The place goes on by hand: `WrittenAt` has it, and a writer over two calls is no shorter.
 fn answer_to(role: Role, field: Field, given: Given<'_>, out: &mut [u8], at: usize) -> usize
     requires { SizeAllowed field role × Parts given.filter.now given.information.now × (at + (4 + padded field.size) ≤ length out.old) }
     ensures { WrittenAt out.old at (chain_octets (answer_to given.entry.filter.now given.entry.information.now field role)) result out.new }
@@ -49,6 +50,7 @@ fn answers(given: Given<'_>, out: &mut [u8]) -> usize
     let mut cursor = Cursor { at: 48 };
     let mut met = field_role::none_met();
     let mut at = 48;
+    // By the cursor (G-4): an iterator over it, with what it yields, is longer than the loops that would use it.
     while let Step::Found(field, next) = cursor.step(given.request) {
         if field_role::is_answered(field.kind) {
             let role = field_role::role_of(given.request, field, met);

@@ -12,6 +12,7 @@ use refusal::Refusal;
 
 // What is found in the records: whether they are wrong, how many there are, the places of the fresh cookie and of the request's, or the
 // end, and the time at the latter.
+// `wrong` stands beside the others: `plan_of` takes them whether it holds or not.
 #[derive(Clone, Copy)]
 pub struct Found {
     pub wrong: bool,
@@ -27,6 +28,7 @@ pub enum Plan {
     // The records stay.
     Basic,
     // A saved time is sent, 0 where there is none. The record at `leaving` leaves, if there is one, before the fresh cookie joins.
+    // 0 and no `Option` of a time, as `saved_time` has it.
     Interleaved { saved: u64, leaving: Option<usize> },
 }
 

@@ -9,6 +9,7 @@ ghost use Rattle.responder_rules.specs.Answer.{outcome};
 ghost use Rattle.c_structs.specs.Numbers.{written_numbers, received_numbers, verdict_numbers, outcome_numbers, weight_numbers, measurement_numbers};
 
 use client::{Measured, Mode};
+use exchange::judging::Unusable;
 use refusal::Refusal;
 
 // How many octets were written; 0 in a refusal (N-27).
@@ -150,6 +151,7 @@ impl From<Result<client::Verdict, Refusal>> for Verdict {
     }
 }
 
+// As for `Written`: in include/ntp5.h each has a struct of its own.
 impl From<Result<u16, Refusal>> for Weight {
     ghost from_gives = { λ said w. weight_numbers w ≡ numbers (by_number said) };
 
@@ -175,7 +177,7 @@ impl From<Option<measure::Measurement>> for Measurement {
                 delay: measurement.delay,
             },
             None => Measurement {
-                judgement: 5,
+                judgement: Unusable::HalfEra.number(),
                 offset: 0,
                 delay: 0,
             },

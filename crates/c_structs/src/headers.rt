@@ -77,6 +77,7 @@ impl From<Result<header::Header, Refusal>> for Read {
 }
 
 // The edition is named by its number.
+// No `From`: the edition is an argument beside.
 pub fn core_header(edition: u8, fields: Header) -> header::Header
     ensures { result ≡ core_header edition fields }
 {

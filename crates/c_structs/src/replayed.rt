@@ -9,6 +9,7 @@ use crate::answers::{Received, of_refusal};
 use trace_rules::{Action, Fault, Found, Record};
 
 // W208-13: what was found, where the next record begins, and what the call answered; all but state and next are 0 where none was made.
+// One flat struct in include/ntp5.h: so the fields of `Received` stand here again.
 #[repr(C)]
 #[derive(Clone, Copy, Default)]
 pub struct Replayed {
@@ -24,6 +25,7 @@ pub struct Replayed {
     pub delay: u64,
 }
 
+// No `From`: neither type is of this crate.
 fn fault_number(fault: Fault) -> u8
     ensures { result ≡ fault_number fault }
 {

@@ -14,6 +14,7 @@ pub(crate) fn run<W: Write>(
     table: &mut [u64],
     kept: &mut [u8],
 ) -> io::Result<()> {
+    // Each library has an enum of its own calls: one enum would know of all three.
     if let Some(change) = Change::at(call) {
         return changes::run(row, change, line, table);
     }

@@ -1,4 +1,5 @@
 // The types of fields, F-9 to F-19.
+// Numbers and no enum: a field of any other type is a field too (F-16).
 pub const PADDING: u16 = 0xF501;
 
 pub const MAC: u16 = 0xF502;

@@ -31,6 +31,7 @@ pub enum Change {
 
 impl Change {
     // The call of the row of this number, from 0 on, if it is one of these.
+    // No `TryFrom`: another number is another library's call and no error.
     pub fn at(row: usize) -> Option<Change>
         ensures { result ≡ change_at row }
     {
@@ -79,7 +80,7 @@ fn poll<W: Write>(row: Row<'_, W>, line: &[u8], table: &mut [u64]) -> io::Result
         mode_at(line, 4),
         output,
     );
-    answers::polled(row, polled, output)
+    row.answered(polled.map(|length| [0, u64::from(length), 0]), output)
 }
 
 // receive A T4 OCTETS

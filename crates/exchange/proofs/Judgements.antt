@@ -1,11 +1,12 @@
 -- Judgement 5 is given exactly where none of 1 to 4 applies and one of the four differences is half an era. A response that can be used has a
 -- measurement. Assumes nothing.
-use mathlib.Core.Path.{◌≡◌, refl, sym}
+use mathlib.Core.Path.{◌≡◌, refl}
 use mathlib.Core.Bool.{Bool, true, false, cond, not, ◌&&◌, ◌||◌, false≢true}
 use Prim.Native.Nat.{ℕ}
 use native.Mathlib.Omega.{arith}
 use borrow.Author.Tests.{eqb-true, eqb-false, eq-eqb, ne_eqb, ltb-false, le-ltb, not-false}
 use lib.Dec.{eqb, ltb}
+use Rattle.std.proofs.lemmas.Bool.{or_parts as neither}
 use Rattle.measure.specs.Measure.{measurement}
 use Rattle.exchange.specs.Claim.{HalfEraFirst, HalfEraJudged}
 use Rattle.exchange.specs.Judging.{judged}
@@ -16,10 +17,6 @@ use Rattle.exchange.specs.declared.judging.Times.{Times}
 passed : (b : Bool) (n x : ℕ) → cond b n x ≡ 5 → (n ≡ 5 → ⊥) → (b ≡ false) × (x ≡ 5)
 passed true n x e f = absurd (f e)
 passed false n x e f = (refl, e)
-
-neither : (a b : Bool) → (a || b) ≡ false → (a ≡ false) × (b ≡ false)
-neither true b e = absurd (false≢true (sym e))
-neither false b e = (refl, e)
 
 -- the previous timescale counts for an interleaved response
 unless-other : (i : Bool) (p s : ℕ) → (i && not (eqb p s)) ≡ false → i ≡ true → p ≡ s

@@ -10,6 +10,7 @@ use octets::{number, part};
 
 // Writes a field at a place of `out`, and answers the place after it. Its data are the octets of `source`, then as many zeros as `zeros`
 // says. A field that is too long for its 16 bits, or for the room from that place on, is not written: the place stays.
+// The same place and no `Option`: `put_field` says so.
 #[tactic(auto, using(crate::proofs::Writing::too_long, crate::proofs::Writing::no_room, octets::proofs::Parts::room))]
 pub fn put(out: &mut [u8], at: usize, kind: u16, source: &[u8], zeros: usize) -> usize
     ensures { (result, out.new) ≡ put_field out.old at (content kind (source.now ++ replicate zeros 0)) }

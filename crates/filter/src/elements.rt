@@ -33,6 +33,7 @@ pub trait Element: Copy {
     ghost as_numbers: { Elements value values };
 }
 
+// An impl for each width, written out, as of `Number`.
 impl Element for u8 {
     const BITS: u16 = 8;
 

@@ -19,6 +19,7 @@ pub fn is_edition(number: u64) -> bool
 }
 
 // The edition of a number that names one.
+// Beside `TryFrom`, total: for a number that was tested.
 pub fn edition_of(number: u64) -> Edition
     ensures { result ≡ edition_of number }
 {
@@ -74,6 +75,7 @@ pub fn interleaved_bit(edition: Edition) -> u16
 }
 
 // H-8, W204-4.
+// Not by `interleaved_bit`: `interleaved_flag` divides, and only by a constant that is a mask.
 pub fn is_interleaved(edition: Edition, flags: u16) -> bool
     ensures { result ≡ interleaved_flag edition flags }
 {

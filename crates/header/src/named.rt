@@ -7,6 +7,7 @@ use crate::Header;
 use crate::edition::Edition;
 use refusal::Refusal;
 
+// Beside the call on an `Edition`: it promises 6 of a number that names none (`read_named`).
 #[tactic(auto, using(crate::proofs::Editions::by_none), unfolding(crate::specs::Header::read_named))]
 pub fn read(edition: u8, datagram: &[u8], wanted_mode: u8) -> Result<Header, Refusal>
     ensures { by_number result ≡ read_named edition datagram.now wanted_mode }

@@ -3,6 +3,7 @@ ghost use Rattle.std.specs.Prelude.{◌≡◌, ◌+◌, ◌≤◌, length};
 ghost use Rattle.std.proofs.Math.Seq.{paste};
 ghost use Rattle.word_rules.specs.Words.{low_first, low_octets};
 
+// Lowest first and of one width: `octets::number` has the other order.
 #[tactic(auto, unfolding(word_rules::specs::Words::low_first))]
 pub(crate) fn load(s: &[u8], at: usize) -> u64
     requires { at + 8 ≤ length s.now }

@@ -91,12 +91,14 @@ fn copy_words(out: &mut [u8], to: usize, source: &[u8], from: usize, whole: usiz
     requires { (to + 8 * whole ≤ length out.old) × (from + 8 * whole ≤ length source.now) }
     ensures { out.new ≡ paste out.old to (drop from source.now) (8 * whole) }
 {
+    // By an index: of what is written through `chunks_exact_mut` a proof knows nothing behind the loan.
     for i in 0..whole {
         store(out, to + 8 * i, load(source, from + 8 * i));
     }
 }
 
 // Each of the words becomes 0.
+// A function for its clause, `zeroed`, which the table's laws cite.
 pub fn zero(words: &mut [u64])
     ensures { words.new ≡ zeroed words.old }
 {

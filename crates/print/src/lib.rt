@@ -24,6 +24,7 @@ use text::{find, part, piece, rest};
 const ROOM: usize = 4096;
 
 // A line that is being made: what is not yet written stands in `out`, up to `at`.
+// No `BufWriter`: its room is on the heap.
 #[derive(Drop)]
 struct Line<'a, W: Write> {
     to: &'a mut W,
@@ -83,6 +84,7 @@ impl<W: Write> Line<'_, W> {
     }
 
     // What the letter of a form stands for.
+    // A letter, matched once, where it is read.
     fn value(&mut self, letter: u8, value: u64, octets: &[u8]) -> io::Result<()> {
         let signed = value.cast_signed();
         match letter {
@@ -167,6 +169,20 @@ impl<W: Write> Row<'_, W> {
         ensures { IfOk result (λ r. r ≡ tt) }
     {
         self.line(&[u64::from(refusal::outcome_number(outcome)), 0], octets)
+    }
+
+    // The row with an answer's values, or with its refusal.
+    pub fn answered<const N: usize>(
+        self,
+        said: Result<[u64; N], Refusal>,
+        octets: &[u8],
+    ) -> io::Result<()>
+        ensures { IfOk result (λ r. r ≡ tt) }
+    {
+        match said {
+            Ok(values) => self.line(&values, octets),
+            Err(refusal) => self.result(Err(refusal), octets),
+        }
     }
 }
 

@@ -50,21 +50,18 @@ pub(crate) fn header<W: Write>(row: Row<'_, W>, line: &[u8], datagram: &[u8]) ->
 
 // weight FILTER
 pub(crate) fn weight<W: Write>(row: Row<'_, W>, filter: &[u8]) -> io::Result<()> {
-    match filter_weight::weigh(filter) {
-        Err(refusal) => row.result(Err(refusal), b""),
-        Ok(weight) => row.line(&[0, u64::from(weight)], b""),
-    }
+    let weight = filter_weight::weigh(filter);
+    row.answered(weight.map(|w| [0, u64::from(w)]), b"")
 }
 
 // measure T1 T2 T3 T4; an exchange that has no measurement is judged 5.
 pub(crate) fn measure<W: Write>(row: Row<'_, W>, line: &[u8]) -> io::Result<()> {
-    let times = (
+    match measure::measure(
         u64_at(line, 1),
         u64_at(line, 2),
         u64_at(line, 3),
         u64_at(line, 4),
-    );
-    match measure::measure(times.0, times.1, times.2, times.3) {
+    ) {
         Some(m) => row.line(&[0, signed(m.offset), m.delay], b""),
         None => row.line(&[5, 0, 0], b""),
     }
@@ -77,10 +74,14 @@ pub(crate) fn verdict<W: Write>(
     id: &[u8],
     table: &[u64],
 ) -> io::Result<()> {
-    match client::loop_verdict(table, bits_at(line, 1), id) {
-        Err(refusal) => row.result(Err(refusal), b""),
-        Ok(Verdict::Incomplete) => row.line(&[0, 1], b""),
-        Ok(Verdict::Loop) => row.line(&[0, 2], b""),
-        Ok(Verdict::Clear) => row.line(&[0, 3], b""),
+    let verdict = client::loop_verdict(table, bits_at(line, 1), id);
+    row.answered(verdict.map(|said| [0, verdict_number(said)]), b"")
+}
+
+fn verdict_number(verdict: Verdict) -> u64 {
+    match verdict {
+        Verdict::Incomplete => 1,
+        Verdict::Loop => 2,
+        Verdict::Clear => 3,
     }
 }

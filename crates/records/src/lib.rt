@@ -25,6 +25,7 @@ pub const UNUSED: Record = Record {
 };
 
 // Where the first record with this cookie stands, from a place on; the end where there is none.
+// The end and no `Option`: `place_from` says so.
 pub fn find(records: &[Record], from: usize, cookie: ServerCookie) -> usize
     ensures { result ≡ place_from (records_in records.now) cookie.0 from }
 {

@@ -6,6 +6,7 @@ use std::io::Write;
 use text::{part, piece};
 
 // A call that was made, by its kind. The rows have the forms of the crate print; `out` is what was lent.
+// The C interface's struct and its numbers: the program replays as C does.
 fn called<W: Write>(to: &mut W, number: u64, r: Replayed, out: &[u8]) -> io::Result<()> {
     let rows = b"-\n\
         open - %d\n\

@@ -7,6 +7,7 @@ use crate::Given;
 use header::edition::Edition;
 use refusal::Refusal;
 
+// Beside the call on an `Edition`: it promises 6 of a number that names none (`answer_named`).
 pub fn answer(
     store: &mut [u8],
     edition: u8,

@@ -8,6 +8,7 @@ use header::{Header, ServerCookie};
 use octets::number;
 
 // N-20, by R-8.
+// A sound store, and no type for it: one test for four private functions, on octets that C lends.
 pub(crate) fn wrong_fresh(store: &[u8], asked: Header, fresh_cookie: ServerCookie) -> bool
     requires { wrong_store store.now ≡ false }
     ensures { result ≡ wrong_fresh asked fresh_cookie.0 (row_of store.now) }
@@ -20,6 +21,7 @@ pub(crate) fn wrong_fresh(store: &[u8], asked: Header, fresh_cookie: ServerCooki
 }
 
 // R-9: the time that was reported for the cookie of a request that wants an interleaved answer, or 0.
+// 0 and no `Option`: a time that was not reported is 0 in the store (R-2) and in `saved_time`.
 pub(crate) fn time(store: &[u8], asked: Header) -> u64
     requires { wrong_store store.now ≡ false }
     ensures { result ≡ saved_time asked (row_of store.now) }

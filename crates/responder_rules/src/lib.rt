@@ -4,6 +4,7 @@
 use header::ServerCookie;
 
 // R-4: what a server says of its clock in every answer.
+// C's ntp5_server: so it is no part of `Header`, whose fields it repeats.
 #[repr(C)]
 #[derive(Clone, Copy)]
 pub struct Server {
@@ -22,6 +23,7 @@ pub struct Server {
 
 // R-4: what an answer takes beside the edition, the store and the output. `fresh_cookie` is looked at only where the request wants an
 // interleaved answer (R-7, R-8).
+// Without the edition, which some callers name by a number.
 #[derive(Clone, Copy)]
 pub struct Given<'a> {
     pub request: &'a [u8],

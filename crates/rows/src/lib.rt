@@ -25,6 +25,7 @@ use words::problem::Problem;
 const ROWS: usize = 64;
 
 // What is wrong with which word of a line, counted from 1.
+// Word 0 is the whole line, as in `found_of`.
 #[derive(Clone, Copy)]
 struct Fault {
     word: usize,
@@ -64,6 +65,7 @@ fn check_octets(word: &[u8]) -> Result<(), Problem>
 }
 
 // What is wrong with a word for this letter; where there is no letter, a word is left over.
+// A letter and no enum: `problem_of` speaks of the letters of the rows' text.
 #[tactic(auto, unfolding(crate::specs::Rows::problem_of))]
 fn check_word(word: &[u8], letter: u8) -> Result<(), Problem>
     ensures { outcome_problem result ≡ problem_of letter word.now }
@@ -91,6 +93,7 @@ fn check_word(word: &[u8], letter: u8) -> Result<(), Problem>
 fn check(line: &[u8], signature: &[u8]) -> Result<(), Fault>
     ensures { (call : ℕ) → with_call call result ≡ fault_of call line.now signature.now }
 {
+    // By places: the one past the signature, whose letter is 0, is looked at too.
     for i in 0..signature.len() + 1 {
         let word = piece(line, i + 1, b' ');
         if let Err(problem) = check_word(word, get(signature, i)) {
@@ -134,6 +137,7 @@ fn find(rows: &[u8], line: &[u8]) -> Result<Option<usize>, Fault>
 }
 
 // The same of the line of this length, which may be more than there is room for.
+// A line and its length: `call_number` takes a length that is past the line.
 fn find_within(rows: &[u8], line: &[u8], length: usize) -> Result<Option<usize>, Fault>
     ensures { called result ≡ some_row (call_number rows.now line.now length) }
 {

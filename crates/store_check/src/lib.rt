@@ -29,6 +29,7 @@ fn unused_from(store: &[u8], from: usize) -> bool
 }
 
 // Whether the four octets at two places are the same. Octet by octet compiles to one comparison; numbers would be turned round first.
+// Not by slices or numbers: as numbers they would be turned round first.
 fn same_half(a: &[u8], b: &[u8], at: usize) -> bool
     requires { (at + 4 ≤ length a.now) × (at + 4 ≤ length b.now) }
     ensures { result ≡ eqb (num a.now at 4) (num b.now at 4) }

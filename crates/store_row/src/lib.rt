@@ -8,6 +8,7 @@ use header::ServerCookie;
 use octets::{number, part};
 
 // Where the first record with this cookie stands, or the end of the records.
+// The end and no `Option`: `place_of` says so. The place is counted beside the records, since callers ask for it.
 pub fn find(store: &[u8], cookie: ServerCookie) -> usize
     ensures { result ≡ place_of store.now cookie.0 }
 {

@@ -39,6 +39,7 @@ fn first(text: &[u8], octet: u8, same: bool) -> Option<usize>
 }
 
 // The first place from `at` on where an octet is this one, or where one is not; or the end.
+// The end and no `Option`: `octet_place` says so.
 pub fn find(text: &[u8], at: usize, octet: u8, same: bool) -> usize
     ensures { result ≡ octet_place text.now at octet same }
 {

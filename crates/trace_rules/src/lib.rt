@@ -8,6 +8,7 @@ use header::ClientCookie;
 #[derive(Clone, Copy)]
 pub enum Action {
     // The edition, the timescale and the chunk size.
+    // A number, since the call that it is refuses the edition (W204-7).
     Open(u8, u8, u16),
     // The client cookie, the exponent, and whether interleaved is wanted.
     Poll(ClientCookie, i8, bool),

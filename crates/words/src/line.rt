@@ -16,6 +16,7 @@ pub trait Bits: Copy {
         ensures { value result ≡ x % 2 ^ WIDTH };
 }
 
+// An impl for each width, written out, as of `Number`.
 impl Bits for u8 {
     ghost WIDTH = { 8 };
 
@@ -60,6 +61,7 @@ pub fn bits_at<N: Bits>(line: &[u8], word: usize) -> N
     N::low(u64_at(line, word))
 }
 
+// Two functions of one line each for signed numbers: a trait with a letter and a sign is longer.
 #[tactic(auto, unfolding(crate::specs::Line::signed_at))]
 pub fn i8_at(line: &[u8], word: usize) -> i8
     ensures { result ≡ signed_at line.now word }

@@ -113,6 +113,7 @@ fn most(letter: u8) -> u64
 }
 
 // The number that a word is, by its letter: b, h, w for 8, 16, 32 bits, s and t for 8 and 16 bits with a sign, any other for 64.
+// A letter and no enum: `word_value` speaks of the letters of the rows' text.
 #[tactic(auto, unfolding(crate::specs::Numeral::word_value))]
 pub fn read(word: &[u8], letter: u8) -> Result<u64, Wrong>
     ensures { value_of result ≡ word_value letter word.now }

@@ -98,9 +98,7 @@ fn fill(buffer: &mut [u8], from: u64, times: u64, octet: u8)
     requires { from + times ≤ 4096 }
     ensures { buffer.new ≡ fill_from buffer.old from times octet }
 {
-    let mut left = times;
-    while left > 0 {
-        left -= 1;
+    for left in (0..times).rev() {
         put(buffer, (from + left) as usize, octet);
     }
 }
@@ -143,6 +141,7 @@ pub fn write(word: &[u8], buffer: &mut [u8]) -> Result<u64, Wrong>
 
 // The octets that a word spells, written from the buffer's start on, as many of them as it has places for. They come back as a
 // part of the buffer, so that a caller has no end to prove; the rest of it is out of reach while the part is in use.
+// The caller lends the room: there is no heap.
 #[tactic(auto, unfolding(crate::specs::OctetWord::word_octets))]
 pub fn octets_of<'a>(word: &[u8], buffer: &'a mut [u8]) -> &'a mut [u8]
     ensures { result.now ≡ word_octets word.now buffer.old }

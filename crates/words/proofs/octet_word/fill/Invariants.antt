@@ -1,10 +1,7 @@
 -- `fill` meets its contract: what is left to write gives the whole. Assumes nothing.
-use Rattle.std.proofs.Common.{◌≡◌, ◌≤◌, length}
+use Rattle.std.proofs.Common.{◌≡◌}
 use Rattle.words.specs.OctetWord.{fill_from}
 use Rattle.words.proofs.octet_word.fill.Given as goal
 
 abbrev pub invariant-loop-left : goal.invariant-loop-left
-invariant-loop-left l = (length l.buffer ≡ length l.initial.buffer) × (l.left ≤ l.times) × (fill_from l.buffer l.from l.left l.octet ≡ fill_from l.initial.buffer l.from l.times l.octet)
-
-abbrev pub decreases-loop-left : goal.decreases-loop-left
-decreases-loop-left l = l.left
+invariant-loop-left l = fill_from l.buffer l.from l.left l.octet ≡ fill_from l.initial.buffer l.from l.times l.octet
