@@ -98,6 +98,22 @@ class Contracts(unittest.TestCase):
         for text in (impl.replace("from_gives", "gives"), impl.replace("From", "TryFrom"), impl.replace("λ n r.", "gives n r")):
             self.assertNotEqual(found(text.replace("SAID", right)), [], text)
 
+    def test_methods(self):
+        trait = "pub trait Number: Copy {\n    const TEXT: &'static str = \"{\";\n\n    ghost WIDTH: { ℕ };\n\n    fn read(s: &[u8; 8], at: usize) -> [u8; 2]CLAUSE\n" \
+                "        ensures { base result ≡ twice s.now at };\n\n    fn zero() -> Self {\n        f(|x| requires { ⊤ } { x })\n    }\n\n" \
+                "    ghost zero_is: { base requires ≡ 0 };\n}\n"
+
+        def found(text):
+            return list(contracts.faults(USES + text, lambda file: RULES.get(file, set())))
+
+        self.assertEqual(found(trait.replace("CLAUSE", "")), [])
+        self.assertEqual(found(trait.replace("CLAUSE", " // requires { ⊤ }")), [])
+        for clause, kind in (("\n        requires { at ≤ 6 }", "requires"), (" requires room { at ≤ 6 }", "requires"), (" requires* { emp }", "requires*")):
+            asking = trait.replace("CLAUSE", clause)
+            self.assertEqual(found(asking), [("Number::read", [f"has a `{kind}`"])])
+            self.assertEqual(found(asking.replace("pub trait", "pub unsafe trait")), [("Number::read", [f"has a `{kind}`"])])
+            self.assertEqual(found(asking.replace("pub trait", "trait")), [])
+
     def test_comments_are_no_contract(self):
         self.refused("0 `ensures`", CLEAR + "\n    /*\n    ensures { " + RIGHT + " }\n    */", "")
         self.refused("does not name its result", CLEAR, RIGHT.replace("(result, store.new)", "store.new {- result -}"))

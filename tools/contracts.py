@@ -11,9 +11,7 @@ contract would go unnoticed. Of each public function is asked that it has no `re
 
 `IfOk result (λ r. A ≡ B)` is such an equation of r, what a call that succeeds returns, and lacks what holds of one that fails.
 `(x : X) → A ≡ B` is one for every x, where x is no other name of the function or its file. A `From` or `TryFrom` is held to the
-same, by its ghost member, which may join equations by `×`.
-
-The methods of a `pub trait` are not looked at: those of `Number` and `Element` ask that there is room, which the functions over them test.
+same, by its ghost member, which may join equations by `×`. A method of a `pub trait` has no `requires` either.
 """
 
 import functools
@@ -270,8 +268,8 @@ def given_faults(said, scope, is_definition):
 
 
 def faults(text, definitions):
-    """Each public function and each conversion of a file, with what its contract lacks. `definitions` has the names that a file of
-    `specs/` defines."""
+    """Each public function and each conversion of a file, with what its contract lacks, and each method of a public trait that asks
+    something. `definitions` has the names that a file of `specs/` defines."""
     scope = rattle_text.brought(text)
 
     def is_definition(name):
@@ -288,6 +286,8 @@ def faults(text, definitions):
         else:
             found.append(f"has {len(promises)} `ensures` and not one")
         yield function.name, list(dict.fromkeys(found))
+    for name, clause in rattle_text.asking_methods(text):
+        yield name, [f"has a `{clause}`"]
 
 
 def defined(text):

@@ -1,4 +1,5 @@
-"""Rattle text as far as the check of contracts reads it: public functions with their clauses, and what `ghost use` brings.
+"""Rattle text as far as the check of contracts reads it: public functions with their clauses, methods of public traits that ask
+something of their callers, and what `ghost use` brings.
 
 All functions are over text.
 """
@@ -17,6 +18,10 @@ GHOST = re.compile(r"\bghost\s+use\s+([^;]*);")
 PARAMETER = re.compile(r"(&(?:'\w+\s+)?(?:mut\s+)?)?(?:mut\s+)?(\w+)(?:\s*:\s*(.*))?", re.S)
 MUTABLE = re.compile(r"&(?:'\w+\s+)?mut\b")
 STRING = r'"(?:[^"\\]|\\.)*"'
+TRAIT = re.compile(r"\bpub\s+(?:unsafe\s+)?trait\s+(\w+)[^{]*\{")
+METHOD = re.compile(r"\bfn\s+(\w+)")
+REQUIRES = re.compile(r"\brequires\b\*?")
+OPENED = re.compile(rf"{STRING}|\{{")
 COMMENT = re.compile(rf"({STRING}|'(?:[^'\\]|\\.)')|//[^\n]*|/\*.*?\*/", re.S)
 
 
@@ -86,6 +91,27 @@ def functions(text):
             clauses.append(("clause that can't be read", ""))
         returns = returned is not None and returned[1] not in (None, "()")
         yield Function(start[1], list(parameters(text[opened + 1:closed])), returns, clauses)
+
+
+def outside_braces(text):
+    kept, at = [], 0
+    for found in OPENED.finditer(text):
+        if found[0] == "{" and found.start() >= at:
+            kept.append(text[at:found.start()])
+            at = matching(text, found.start()) + 1
+    return " ".join([*kept, text[at:]])
+
+
+def asking_methods(text):
+    """Each method of a public trait that has a `requires`, with that word. What stands in braces is no method's own: terms and bodies."""
+    text = without_comments(text)
+    for trait in TRAIT.finditer(text):
+        block = outside_braces(text[trait.end():matching(text, trait.end() - 1)])
+        starts = list(METHOD.finditer(block))
+        ends = [start.start() for start in starts[1:]] + [len(block)]
+        for start, end in zip(starts, ends):
+            for found in dict.fromkeys(REQUIRES.findall(block, start.end(), end)):
+                yield f"{trait[1]}::{start[1]}", found
 
 
 def brought(text):

@@ -11,13 +11,12 @@ use Rattle.octets.specs.Number.{put_at}
 use Rattle.octets.specs.Part.{copy_at}
 use Rattle.words.specs.Line.{number_at, bits_at, octets_at}
 use Rattle.store_rules.specs.Row.{wrong_size, store_octets, size_of, cleared, reporting}
-use Rattle.responder_rules.specs.Answer.{Given, given, Outcome, outcome, answer_named}
+use Rattle.responder_rules.specs.Answer.{Given, Outcome, outcome, answer_named}
 use Rattle.header.specs.declared.edition.Edition.{Edition}
-use Rattle.responder_rules.specs.declared.Server.{Server}
 use Rattle.refusal.specs.Refusal.{refusal_number}
 use Rattle.refusal.specs.declared.Refusal.{Refusal}
 use Rattle.refusal.specs.declared.Refusal.TheVariants.{BadLength, BadVersion, BadMode, BadField, BadPadding, BadArgument, BadState, BadCookie, NotAsked, NotInterleaved, NoRoom, NotStored, AfterMac}
-use Rattle.actions.specs.Given.{server_of}
+use Rattle.actions.specs.Given.{given_from}
 use Rattle.std.proofs.Common.{Result}
 use Rattle.actions.specs.Kept.{length_of, store_of, store_reported, store_answered, store_after, kept_cleared, kept_lent, kept_after}
 
@@ -27,18 +26,16 @@ module _ (line s s' : List ℕ) where
   reported r c t e f z = ap (λ (w : ℕ × List ℕ). w.1) z ∙ rw (e, f)
 
   -- the store of an answer, where its output was written
-  pub answered : (n : ℕ) (g : Edition → Given) (r : Result ℕ ℕ) (out out' : List ℕ) → out ≡ octets_at line 18 → n ≡ bits_at 8 line 1
-      → outcome r out' s' ≡ answer_named n g s out → s' ≡ (answer_named (bits_at 8 line 1) g s (octets_at line 18)).store
-  answered n g r out out' e f z = ap (λ (o : Outcome). o.store) z ∙ rw (e, f)
+  pub answered : (g : Edition → Given) (r : Result ℕ ℕ) (out out' : List ℕ) → out ≡ octets_at line 18
+      → outcome r out' s' ≡ answer_named (bits_at 8 line 1) g s out → s' ≡ (answer_named (bits_at 8 line 1) g s (octets_at line 18)).store
+  answered g r out out' e z = ap (λ (o : Outcome). o.store) z ∙ rw e
 
   -- and what it was given
-  pub answered-all : (request filter information : List ℕ) (receive estimate fresh : ℕ) (server : Server)
-      → request ≡ octets_at line 2 → receive ≡ number_at line 3 → estimate ≡ number_at line 4 → fresh ≡ number_at line 5 → server ≡ server_of line
-      → filter ≡ octets_at line 16 → information ≡ octets_at line 17
-      → s' ≡ (answer_named (bits_at 8 line 1) (given request receive estimate fresh server filter information) s (octets_at line 18)).store
-      → s' ≡ store_answered line s
+  pub answered-all : (g : Edition → Given) (request filter information : List ℕ) → g ≡ given_from line request filter information
+      → request ≡ octets_at line 2 → filter ≡ octets_at line 16 → information ≡ octets_at line 17
+      → s' ≡ (answer_named (bits_at 8 line 1) g s (octets_at line 18)).store → s' ≡ store_answered line s
   unfolding store_answered
-  answered-all request filter information receive estimate fresh server e f g h i j k z = z ∙ rw (e, f, g, h, i, j, k)
+  answered-all g request filter information d e f h z = z ∙ rw (d, e, f, h)
 
 -- no refusal has the number 0
 pub some_refusal : (r : Refusal) → refusal_number r ≡ 0 → ⊥

@@ -4,7 +4,7 @@
 ghost use Rattle.std.specs.Prelude.{◌≡◌, false};
 ghost use Rattle.refusal.specs.Refusal.{outcome_number, by_number};
 ghost use Rattle.responder_rules.specs.Answer.{refused_answer};
-ghost use Rattle.answer_plan.specs.Value.{request_cookie, plan_as, keeping_plan, plan_of};
+ghost use Rattle.answer_plan.specs.Value.{request_cookie, plan_as, keeping_plan, plan_of, leaves, planned};
 
 use answer_header::wants_interleaved;
 use header::{Header, ServerCookie};
@@ -32,9 +32,9 @@ pub enum Plan {
     Interleaved { saved: u64, leaving: Option<usize> },
 }
 
-// The server cookie of a request; 0 where it is refused.
-pub fn asked_cookie(request: Result<Header, Refusal>) -> ServerCookie
-    ensures { result ≡ request_cookie (by_number request) }
+// The server cookie of a request; 0 where it is refused, whatever it is refused by.
+pub fn asked_cookie<E: Copy>(request: Result<Header, E>) -> ServerCookie
+    ensures { result ≡ request_cookie request }
 {
     match request {
         Ok(asked) => asked.server_cookie,
@@ -57,7 +57,8 @@ fn refused(wrong_cookie: bool, short: bool) -> Result<(), Refusal>
 
 // What an answer that is not refused does.
 fn keeping(wants: bool, found: Found) -> Plan
-    ensures { plan_as found.len (Ok result) ≡ keeping_plan wants found.len found.at found.time }
+    ensures { (plan_as found.len (Ok result), leaves (Ok result))
+        ≡ planned (keeping_plan wants found.len found.at found.time) }
 {
     if !wants {
         return Plan::Basic;
@@ -76,8 +77,8 @@ pub fn plan_of(
     short: bool,
     fresh_cookie: ServerCookie,
 ) -> Result<Plan, Refusal>
-    ensures { plan_as found.len (by_number result)
-        ≡ plan_of found.wrong (by_number request) short fresh_cookie found.len found.fresh_at found.at found.time }
+    ensures { (plan_as found.len (by_number result), leaves (by_number result))
+        ≡ planned (plan_of found.wrong (by_number request) short fresh_cookie found.len found.fresh_at found.at found.time) }
 {
     if found.wrong {
         return Err(Refusal::BadArgument);

@@ -4,15 +4,18 @@
 
 mod answers;
 
-ghost use Rattle.std.specs.Prelude.{◌≡◌, ℕ, List};
+ghost use Rattle.std.specs.Prelude.{◌≡◌, [], ℕ, List};
+ghost use Rattle.refusal.specs.Refusal.{outcome_number};
+ghost use Rattle.client_rules.specs.Call.{plain_answer};
 ghost use Rattle.client_rules.specs.Numbers.{step_numbers};
 ghost use Rattle.client.specs.Answers.{is_interleaved};
-ghost use Rattle.changes.specs.Change.{interleaved_at, poll_of, receive_of, table_after};
+ghost use Rattle.changes.specs.Change.{interleaved_at, poll_of, receive_of, change_of, table_after};
 ghost use Rattle.changes.specs.Rows.{row_number, change_at};
 
 use client::Mode;
 use header::ClientCookie;
 use print::Row;
+use refusal::Refusal;
 use std::io;
 use std::io::Write;
 use text::piece;
@@ -66,6 +69,25 @@ fn mode_at(line: &[u8], word: usize) -> Mode
     }
 }
 
+// The calls that answer a refusal or nothing. Any other is a send, as `change_of` has it.
+fn make(change: Change, line: &[u8], table: &mut [u64]) -> Result<(), Refusal>
+    ensures { (plain_answer (outcome_number result) [], table.new) ≡ step_numbers (change_of (row_number change) line.now) table.old }
+{
+    let first = bits_at(line, 1);
+    match change {
+        Change::Clear => client::clear(table),
+        Change::Open => client::open(
+            table,
+            first,
+            bits_at(line, 2),
+            bits_at(line, 3),
+            bits_at(line, 4),
+        ),
+        Change::Close => client::close(table, first),
+        _ => client::sent(table, first, u64_at(line, 2)),
+    }
+}
+
 // poll A COOKIE EXPONENT MODE OUTPUT
 fn poll<W: Write>(row: Row<'_, W>, line: &[u8], table: &mut [u64]) -> io::Result<()>
     ensures { table.new ≡ (step_numbers (poll_of line.now) table.old).1 }
@@ -102,20 +124,9 @@ pub fn run<W: Write>(
 ) -> io::Result<()>
     ensures { table.new ≡ table_after (row_number change) line.now table.old }
 {
-    let first = bits_at(line, 1);
-    let outcome = match change {
-        Change::Clear => client::clear(table),
-        Change::Open => client::open(
-            table,
-            first,
-            bits_at(line, 2),
-            bits_at(line, 3),
-            bits_at(line, 4),
-        ),
-        Change::Close => client::close(table, first),
-        Change::Sent => client::sent(table, first, u64_at(line, 2)),
-        Change::Poll => return poll(row, line, table),
-        Change::Receive => return receive(row, line, table),
-    };
-    row.result(outcome, b"")
+    match change {
+        Change::Poll => poll(row, line, table),
+        Change::Receive => receive(row, line, table),
+        _ => row.result(make(change, line, table), b""),
+    }
 }

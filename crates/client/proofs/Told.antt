@@ -24,7 +24,7 @@ use Rattle.state.specs.Reply.{Reply}
 use Rattle.state.specs.Code.{reply_as}
 use Rattle.state.specs.Plain.{Place, closed, opened, place_do}
 use Rattle.state.specs.declared.event.Reply as code
-use Rattle.state.specs.declared.event.Reply.TheVariants.{Done, Asked as AskedReply, Measured}
+use Rattle.state.specs.declared.event.Reply.TheVariants.{Done, Asked as AskedReply, Measured, Looked}
 use Rattle.state.proofs.Refused.{by-request}
 use Rattle.association.specs.Record.{head_of, record_size}
 use Rattle.association.specs.Encode.{decode}
@@ -38,6 +38,7 @@ pub was-asked : (r : code.Reply) (room : ℕ) → Writable (reply_as r).asked ro
 was-asked Done room w never = let least = w.least in omega (arith, least)
 was-asked (AskedReply q) room w never = never q refl
 was-asked (Measured j c times) room w never = let least = w.least in omega (arith, least)
+was-asked (Looked b) room w never = let least = w.least in omega (arith, least)
 
 -- an accepted response: its chunk has an outcome, and if it can be used its times have a measurement
 pub record Told (a : Reply) : Type 0 where
@@ -51,6 +52,7 @@ pub was-measured : (r : code.Reply) → Told (reply_as r) → ((j : Result Unit 
 was-measured Done t never = t.outcome refl
 was-measured (AskedReply q) t never = t.outcome refl
 was-measured (Measured j c times) t never = never j c times refl
+was-measured (Looked b) t never = t.outcome refl
 
 some-outcome : (r : Response) (c : ℕ) → outcome_of r c ≡ 0 → ⊥
 some-outcome r c = go r.present (eqb r.size c)

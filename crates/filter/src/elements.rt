@@ -1,6 +1,6 @@
 // Filters of any element, W210-1: octets, or words of 64 bits. Each call is total: a position past the end of a slice is not set, and
 // adding it changes nothing.
-ghost use Rattle.std.specs.Prelude.{◌≡◌, List, ℕ, ◌/◌, ◌%◌, ◌^◌, ◌<◌, ◌≤◌, eqb};
+ghost use Rattle.std.specs.Prelude.{◌≡◌, List, ℕ, ◌/◌, ◌%◌, ◌^◌, ◌≤◌, eqb};
 ghost use Rattle.std.specs.Int.Bits.{bit_or};
 ghost use Rattle.filter_rules.specs.Filter.{is_set_in, add_position_in, add_all_in, contains_all_in, union};
 ghost use Rattle.filter.specs.Elements.{Elements, plain};
@@ -16,14 +16,12 @@ pub trait Element: Copy {
 
     ghost values: { List Self → List ℕ };
 
-    // The element with bit k alone.
+    // The element with the bit of position k alone. Past the last bit, here and in `has_bit`, k counts from the first again.
     fn bit(k: u16) -> Self
-        requires { k < BITS }
-        ensures { value result ≡ 2 ^ k };
+        ensures { value result ≡ 2 ^ (k % BITS) };
 
     fn has_bit(self, k: u16) -> bool
-        requires { k < BITS }
-        ensures { result ≡ eqb (value self / 2 ^ k % 2) 1 };
+        ensures { result ≡ eqb (value self / 2 ^ (k % BITS) % 2) 1 };
 
     fn or(self, other: Self) -> Self
         ensures { value result ≡ bit_or (value self) (value other) };
@@ -48,11 +46,11 @@ impl Element for u8 {
     ghost as_numbers = { plain };
 
     fn bit(k: u16) -> u8 {
-        1u8 << k
+        1u8 << (k % 8)
     }
 
     fn has_bit(self, k: u16) -> bool {
-        self >> k & 1u8 == 1
+        self >> (k % 8) & 1u8 == 1
     }
 
     fn or(self, other: u8) -> u8 {
@@ -74,11 +72,11 @@ impl Element for u64 {
     ghost as_numbers = { plain };
 
     fn bit(k: u16) -> u64 {
-        1u64 << k
+        1u64 << (k % 64)
     }
 
     fn has_bit(self, k: u16) -> bool {
-        self >> k & 1u64 == 1
+        self >> (k % 64) & 1u64 == 1
     }
 
     fn or(self, other: u64) -> u64 {
@@ -92,7 +90,7 @@ fn set<E: Element>(filter: &mut [E], p: u16)
 {
     let at = (p / E::BITS) as usize;
     if at < filter.len() {
-        filter[at] = filter[at].or(E::bit(p % E::BITS));
+        filter[at] = filter[at].or(E::bit(p));
     }
 }
 
@@ -101,7 +99,7 @@ fn is_set<E: Element>(filter: &[E], p: u16) -> bool
     ensures { result ≡ is_set_in E.BITS (E.values filter.now) p }
 {
     match filter.get((p / E::BITS) as usize) {
-        Some(element) => element.has_bit(p % E::BITS),
+        Some(element) => element.has_bit(p),
         None => false,
     }
 }

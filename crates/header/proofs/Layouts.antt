@@ -5,7 +5,7 @@ use mathlib.Core.List.{List, []}
 use Prim.Native.Nat.{ℕ, ◌<◌, ◌≤◌, ◌^◌}
 use native.Mathlib.Omega.{arith}
 use lib.Dec.{ltb}
-use lib.IntN.{ℤ}
+use lib.IntN.{ℤ, pos}
 use lib.ListN.{length, replicate}
 use mir.Syntax.{w16}
 use mir.Facts.{to_z-of_z, of_z-to_z, Fits-of_z, sfits_to_z}
@@ -63,10 +63,33 @@ offset-back Seven flags z s = sym s
 
 -- ---- octets in their fields
 
-pub no-octets : (e : Edition) → header_of e (replicate 48 0) ≡ header_of e []
+pub no-octets : (e : Edition) → header_of e [] ≡ record {
+  edition = e;
+  leap = 0;
+  mode = 0;
+  stratum = 0;
+  poll = pos 0;
+  precision = pos 0;
+  timescale = 0;
+  era = 0;
+  timescale_offset = pos 0;
+  flags = 0;
+  root_delay = 0;
+  root_dispersion = 0;
+  server_cookie = record { 0 = 0 };
+  client_cookie = record { 0 = 0 };
+  receive = 0;
+  transmit = 0;
+}
 unfolding header_of num
 no-octets One = refl
 no-octets Seven = refl
+
+-- a header of 48 zeros
+pub zero-octets : (e : Edition) → header_of e (replicate 48 0) ≡ header_of e []
+unfolding header_of num
+zero-octets One = refl
+zero-octets Seven = refl
 
 pub header-at : (e : Edition) (s : List ℕ) → 48 ≤ length s → header_at e s ≡ header_of e s
 header-at e s room = rw (le-ltb _ _ room)

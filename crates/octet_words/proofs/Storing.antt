@@ -1,15 +1,17 @@
 -- Words stored one after the other are octets pasted. Assumes nothing.
 --     stored        a word stored
+--     store-halves  a word stored by halves
 --     turn          a turn of a loop that stores words
 --     then-rest     after whole words the octets that are left
 --     read          words that were read one by one
 use mathlib.Core.Path.{◌≡◌, refl, sym, ap, ◌∙◌}
-use mathlib.Core.List.{List}
+use mathlib.Core.List.{List, ◌∷◌, ◌++◌}
 use Prim.Native.Nat.{ℕ, zero, suc, ◌+◌, ◌*◌, ◌/◌, ◌%◌, ◌^◌, ◌<◌, ◌≤◌}
-use native.Mathlib.Nat.{div-one, div-div-eq-div-mul, pow-suc}
+use native.Mathlib.Nat.{div-one, div-div-eq-div-mul, pow-suc, zero-add, suc-add}
 use native.Mathlib.Omega.{arith}
 use borrow.Rule.Slice.PartMut.{put_mid}
 use lib.ListN.{length, get_or, take, drop, length-drop}
+use lib.Pow.{shr-shr, mod-mod-pow, field}
 use lib.Seq.{paste, take-add, take_at, drop-drop, drop-cons, length-take-le, length-paste}
 use Rattle.std.specs.Int.{bytes_low_first}
 use Rattle.std.proofs.lemmas.List.{ext_get_or}
@@ -35,6 +37,32 @@ low-bytes i (suc k) w =
 pub stored : (at k w : ℕ) (s ys : List ℕ) → ys ≡ bytes_low_first 0 8 w → k ≡ 8 → put_mid at k s ys ≡ paste s at (low_octets 8 w) 8
 stored at k w s ys e h =
     put_mid-paste at k s ys (low_octets 8 w) 8 (e ∙ low-bytes 0 8 w ∙ ap (low_octets 8) (div-one w)) (sym h) (sym (length-low 8 w))
+
+-- ---- a word stored by halves
+
+low-mod : (n w : ℕ) → low_octets n (w % 2 ^ (8 * n)) ≡ low_octets n w
+unfolding low_octets
+low-mod zero w = refl
+low-mod (suc n) w =
+    let e : 8 * suc n ≡ 8 * n + 8 = omega arith in
+    rw (e, mod-mod-pow w (8 * n) 8, field w (8 * n) 8, low-mod n (w / 256))
+
+low-add : (m n w : ℕ) → low_octets (m + n) w ≡ low_octets m w ++ low_octets n (w / 2 ^ (8 * m))
+unfolding low_octets
+low-add zero n w = rw (zero-add, div-one)
+low-add (suc m) n w =
+    let e : 8 + 8 * m ≡ 8 * suc m = omega arith in
+    let q : w / 256 / 2 ^ (8 * m) ≡ w / 2 ^ (8 * suc m) = shr-shr w 8 (8 * m) ∙ ap (λ (k : ℕ). w / 2 ^ k) e in
+    ap (λ (k : ℕ). low_octets k w) (suc-add m n)
+    ∙ ap (λ (l : List ℕ). w % 256 ∷ l) (low-add m n (w / 256) ∙ ap (λ (v : ℕ). low_octets m (w / 256) ++ low_octets n v) q)
+
+pub store-halves : (s s₁ s₂ : List ℕ) (at n w : ℕ) → at + (n + n) ≤ length s
+    → s₁ ≡ paste s at (low_octets n (w % 2 ^ (8 * n))) n → s₂ ≡ paste s₁ (at + n) (low_octets n (w / 2 ^ (8 * n))) n
+    → s₂ ≡ paste s at (low_octets (n + n) w) (n + n)
+store-halves s s₁ s₂ at n w h e e' =
+    e' ∙ ap (λ (l : List ℕ). paste l (at + n) (low_octets n (w / 2 ^ (8 * n))) n) (e ∙ ap (λ (l : List ℕ). paste s at l n) (low-mod n w))
+    ∙ paste-paste s (low_octets n w) (low_octets n (w / 2 ^ (8 * n))) at n n (length-low n _) (length-low n _) h
+    ∙ ap (λ (l : List ℕ). paste s at l (n + n)) (sym (low-add n n w))
 
 -- ---- a part after a part of one list
 

@@ -58,12 +58,12 @@ impl<W: Write> Line<'_, W> {
         let times = run.len();
         if times < 4 {
             for x in run {
-                write!(self, "{x:02x}")?;
+                self.write_all(&pair(*x))?;
             }
             return Ok(());
         }
-        let x = run[0];
-        write!(self, "{x:02x}*{times}")?;
+        self.write_all(&pair(run[0]))?;
+        write!(self, "*{times}")?;
         if followed {
             self.write_all(b",")?;
         }
@@ -123,6 +123,15 @@ impl<W: Write> Line<'_, W> {
         self.write_all(b"\n")?;
         self.flush()
     }
+}
+
+// The two hexadecimal digits of an octet. Most of what is printed are octets, and `{x:02x}` takes twice as long.
+fn pair(x: u8) -> [u8; 2] {
+    let digits = b"0123456789abcdef";
+    [
+        get(digits, usize::from(x / 16)),
+        get(digits, usize::from(x % 16)),
+    ]
 }
 
 fn start<W: Write>(to: &mut W) -> Line<'_, W> {

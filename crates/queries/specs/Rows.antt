@@ -1,5 +1,6 @@
 -- The calls by the numbers of their rows.
 use Rattle.std.specs.Prelude.{ℕ, eqb, cond, Option, Some, None}
+use Rattle.std.specs.Option.{unwrap_or}
 use Rattle.queries.specs.declared.Query.{Query}
 use Rattle.queries.specs.declared.Query.TheVariants.{Header, Write, Sound, Add, Union, Weight, Measure, Verdict, Publish}
 
@@ -15,3 +16,7 @@ query_at n =
     (cond (eqb n 13) (Some Verdict)
     (cond (eqb n 14) (Some Publish)
     None))))))))
+
+-- the call of any number: a verdict where it is that of no row
+abbrev pub query_for : ℕ → Query
+query_for n = unwrap_or (query_at n) Verdict

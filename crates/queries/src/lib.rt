@@ -7,7 +7,7 @@ mod outputs;
 mod views;
 
 ghost use Rattle.std.specs.Prelude.{◌≡◌, IfOk};
-ghost use Rattle.queries.specs.Rows.{query_at};
+ghost use Rattle.queries.specs.Rows.{query_at, query_for};
 
 use print::Row;
 use std::io;
@@ -46,6 +46,15 @@ impl Query {
             14 => Some(Query::Publish),
             _ => None,
         }
+    }
+}
+
+// The call of any number: the row's, and a verdict where it is that of no row.
+impl From<usize> for Query {
+    ghost from_gives = { λ call query. query ≡ query_for call };
+
+    fn from(call: usize) -> Query {
+        Query::at(call).unwrap_or(Query::Verdict)
     }
 }
 

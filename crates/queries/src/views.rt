@@ -1,4 +1,8 @@
 // The calls that have no output: header, weight, measure and verdict.
+ghost use Rattle.std.specs.Prelude.{◌≡◌};
+ghost use Rattle.std.specs.Int.{w64};
+ghost use Rattle.std.proofs.Common.{of_z};
+
 use client::Verdict;
 use header::Header;
 use header::edition::Edition;
@@ -7,8 +11,10 @@ use std::io;
 use std::io::Write;
 use words::line::{bits_at, u64_at};
 
-// A signed number as a value of a row.
-fn signed(x: i64) -> u64 {
+// A signed number as a value of a row: in two's complement of 64 bits.
+fn signed(x: i64) -> u64
+    ensures { result ≡ of_z w64 x }
+{
     x.cast_unsigned()
 }
 

@@ -6,7 +6,7 @@ use Rattle.poll_request.specs.declared.Asked.{Asked}
 use Rattle.exchange.specs.Response.{responded}
 use Rattle.exchange.specs.Judging.{judgement_number, chunk_number}
 use Rattle.exchange.specs.declared.judging.Times.{Times}
-use Rattle.state.specs.Event.{Event, Open, Close, Poll, Sent, Receive}
+use Rattle.state.specs.Event.{Event, Open, Close, Poll, Sent, Receive, Look}
 use Rattle.state.specs.Reply.{Reply}
 use Rattle.state.specs.Rules.{none_asked, no_times, plain_reply, look_reply}
 use Rattle.state.specs.Change.{Change, change, refuse}
@@ -24,30 +24,41 @@ event_as event.Close = Close
 event_as (event.Poll cookie interleaved room) = Poll cookie interleaved room
 event_as (event.Sent t1) = Sent t1
 event_as (event.Receive response t4) = Receive (responded response t4)
+event_as event.Look = Look
 
 abbrev pub asked_of : code_reply.Reply → Asked
 asked_of reply.Done = none_asked
 asked_of (reply.Asked q) = q
 asked_of (reply.Measured judged chunk times) = none_asked
+asked_of (reply.Looked complete) = none_asked
 
 abbrev pub judgement_of : code_reply.Reply → ℕ
 judgement_of reply.Done = 0
 judgement_of (reply.Asked q) = 0
 judgement_of (reply.Measured judged chunk times) = judgement_number judged
+judgement_of (reply.Looked complete) = 0
 
 abbrev pub outcome_in : code_reply.Reply → ℕ
 outcome_in reply.Done = 0
 outcome_in (reply.Asked q) = 0
 outcome_in (reply.Measured judged chunk times) = chunk_number chunk
+outcome_in (reply.Looked complete) = 0
 
 abbrev pub times_in : code_reply.Reply → Times
 times_in reply.Done = no_times
 times_in (reply.Asked q) = no_times
 times_in (reply.Measured judged chunk times) = times
+times_in (reply.Looked complete) = no_times
 
--- of what was not refused
+abbrev pub complete_in : code_reply.Reply → Bool
+complete_in reply.Done = false
+complete_in (reply.Asked q) = false
+complete_in (reply.Measured judged chunk times) = false
+complete_in (reply.Looked complete) = complete
+
+-- of what was not refused; `kind_of` tells apart what this alone does not
 abbrev pub reply_as : code_reply.Reply → Reply
-reply_as r = record { refusal = 0; asked = asked_of r; judgement = judgement_of r; outcome = outcome_in r; times = times_in r; complete = false }
+reply_as r = record { refusal = 0; asked = asked_of r; judgement = judgement_of r; outcome = outcome_in r; times = times_in r; complete = complete_in r }
 
 abbrev pub replied : Result code_reply.Reply Refusal → Reply
 replied (Ok r) = reply_as r

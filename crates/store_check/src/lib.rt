@@ -69,8 +69,9 @@ fn held_later(store: &[u8], at: usize) -> bool
     requires { at + 16 ≤ length store.now }
     ensures { result ≡ held (num store.now at 8) (records_from ((length store.now - (at + 16)) / 16) store.now (at + 16)) }
 {
-    for later in store[at + 16..].chunks_exact(16) {
-        if same_cookie(later, &store[at..]) {
+    // By an index: `chunks_exact` counts what is left beside its place, six instructions a turn for five.
+    for i in 1..(store.len() - at) / 16 {
+        if same_cookie(&store[at + 16 * i..], &store[at..]) {
             return true;
         }
     }

@@ -13,6 +13,18 @@ pub struct Window {
     pub count: usize,
 }
 
+// The octets from `at` to `count` go to the start. Answers how many they are; 0, and nothing moves, where there is no such part.
+#[tactic(auto, unfolding(crate::specs::Window::kept))]
+pub fn keep(window: &mut [u8], at: usize, count: usize) -> usize
+    ensures { (result, window.new) ≡ kept window.old at count }
+{
+    if (window.len() < count) | (count < at) {
+        return 0;
+    }
+    window.copy_within(at..count, 0);
+    count - at
+}
+
 impl Window {
     #[tactic(auto, unfolding(crate::specs::Window::empty_window))]
     pub fn empty() -> Window
@@ -24,17 +36,11 @@ impl Window {
         }
     }
 
-    // The octets from `at` to the count go to the start. There are none, and nothing moves, where there is no such part.
-    #[tactic(auto, unfolding(crate::specs::Window::kept))]
+    // The octets from `at` to the count go to the start, and the count is how many they are.
     pub fn keep(&mut self, at: usize)
         ensures { (self.new.count, self.new.octets) ≡ kept self.old.octets at self.old.count }
     {
-        if (ROOM < self.count) | (self.count < at) {
-            self.count = 0;
-        } else {
-            self.octets.copy_within(at..self.count, 0);
-            self.count -= at;
-        }
+        self.count = keep(&mut self.octets, at, self.count);
     }
 
     // The octets that were read.

@@ -23,7 +23,7 @@ unfolding fill_from
 fill_done b from left octet h = let z : left ≡ 0 = omega arith in rw z
 
 -- a run that is judged good has room
-judged-room : (r : Run) (count : ℕ) → count ≤ 4096 → run_problem r count ≡ 0 → count + r.times ≤ 4096
+pub judged-room : (r : Run) (count : ℕ) → count ≤ 4096 → run_problem r count ≡ 0 → count + r.times ≤ 4096
 unfolding run_problem
 judged-room r count h = go (eqb r.problem 0) refl (leb r.times (4096 - count)) refl
   where

@@ -16,11 +16,11 @@ unfolding place_do
 returns-then-not-is_openable c =
     let a = c.args in
     let no = sym c.is_openable.ensures ∙ c.if-not-is_openable.true in
-    refused 6 refl refl (λ datagram f. by_place (λ (p : Place). place_do (Open a.edition a.timescale a.chunk) datagram p ≡ refuse_at 6 p) a.h f (rw no) (rw no))
+    record { does = refused 6 refl refl (λ datagram f. by_place (λ (p : Place). place_do (Open a.edition a.timescale a.chunk) datagram p ≡ refuse_at 6 p) a.h f (rw no) (rw no)); kind = refl }
 
 pub returns-then-h-ne0 : goal.returns-then-h-ne0
 unfolding place_do
-returns-then-h-ne0 c = refused 7 refl refl (λ datagram f. rw (ne_eqb _ _ c.if-h-ne0.true, sym c.is_openable.ensures ∙ c.if-not-is_openable.false))
+returns-then-h-ne0 c = record { does = refused 7 refl refl (λ datagram f. rw (ne_eqb _ _ c.if-h-ne0.true, sym c.is_openable.ensures ∙ c.if-not-is_openable.false)); kind = refl }
 
 pub returns : goal.returns
 unfolding place_do
@@ -28,4 +28,4 @@ returns c =
     let a = c.args in
     let offers = sym c.is_openable.ensures ∙ c.if-not-is_openable.false in
     rw c.closed_head.ensures
-    (done (opened-fresh a.h a.edition a.timescale a.chunk ((and-eq-true_iff (is_edition a.edition) (leb a.timescale (most_timescale (edition_of a.edition)))).0 ((and-eq-true_iff (is_edition a.edition && leb a.timescale (most_timescale (edition_of a.edition))) (offered a.chunk)).0 offers).0).0) (λ datagram f. rw (eq-eqb _ _ c.if-h-ne0.false, offers)) refl)
+    (record { does = done (opened-fresh a.h a.edition a.timescale a.chunk ((and-eq-true_iff (is_edition a.edition) (leb a.timescale (most_timescale (edition_of a.edition)))).0 ((and-eq-true_iff (is_edition a.edition && leb a.timescale (most_timescale (edition_of a.edition))) (offered a.chunk)).0 offers).0).0) (λ datagram f. rw (eq-eqb _ _ c.if-h-ne0.false, offers)) refl; kind = refl })

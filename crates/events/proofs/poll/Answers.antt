@@ -20,7 +20,7 @@ use Rattle.events.proofs.poll.Goals.{After-poll_length, Then-cookie-eq, Else-coo
 
 pub returns-then-h-eq0 : goal.returns-then-h-eq0
 unfolding place_do
-returns-then-h-eq0 c = refused 7 refl refl (λ datagram f. rw (eq-eqb _ _ c.if-h-eq0.true))
+returns-then-h-eq0 c = record { does = refused 7 refl refl (λ datagram f. rw (eq-eqb _ _ c.if-h-eq0.true)); kind = refl }
 
 -- the test of the cookie, in numbers
 last_again : (c : Then-cookie-eq) → eqb c.args.cookie.0 0 || eqb c.args.cookie.0 c.args.h.last.0 ≡ true
@@ -31,7 +31,8 @@ another c = ap (λ (b : Bool). eqb c.args.cookie.0 0 || b) (sym c.eq.ensures) �
 
 pub returns-then-cookie-eq : goal.returns-then-cookie-eq
 unfolding place_do
-returns-then-cookie-eq c = refused 8 refl refl (λ datagram f. rw (ne_eqb _ _ c.if-h-eq0.false, is-last c.args.cookie.0 c.args.h.last.0, last_again c))
+returns-then-cookie-eq c =
+    record { does = refused 8 refl refl (λ datagram f. rw (ne_eqb _ _ c.if-h-eq0.false, is-last c.args.cookie.0 c.args.h.last.0, last_again c)); kind = refl }
 
 -- the numbers are those of an open association
 opened-at : (c : Else-cookie-eq) → OpenRanges c.args.h
@@ -48,7 +49,7 @@ pub returns-then-room-poll_length : goal.returns-then-room-poll_length
 unfolding place_do
 returns-then-room-poll_length c =
     let a = c.args in
-    refused 11 refl refl (λ datagram f. rw (ne_eqb _ _ c.if-h-eq0.false, is-last a.cookie.0 a.h.last.0, another (goal.at.returns-then-room-poll_length c).Else-cookie-eq, ← length_at (goal.at.returns-then-room-poll_length c).After-poll_length, lt-ltb _ _ c.if-room-poll_length.true))
+    record { does = refused 11 refl refl (λ datagram f. rw (ne_eqb _ _ c.if-h-eq0.false, is-last a.cookie.0 a.h.last.0, another (goal.at.returns-then-room-poll_length c).Else-cookie-eq, ← length_at (goal.at.returns-then-room-poll_length c).After-poll_length, lt-ltb _ _ c.if-room-poll_length.true)); kind = refl }
 
 pub sent_server-server-requires : goal.sent_server-server-requires
 sent_server-server-requires c = ((opened-at (goal.at.sent_server-server-requires c).Else-cookie-eq).saved, c.missed_counted-missed.ensures)
@@ -68,7 +69,11 @@ returns c =
     let a = c.args in
     let h = a.h in
     let o = opened-at (goal.at.returns c).Else-cookie-eq in
-    done {a = poll_reply (record { edition = edition_of h.state; timescale = h.timescale; chunk = h.chunk; offset = h.next; server = record { 0 = sent_cookie a.interleaved (opened_in h []) } })} {p = λ datagram f. opened (polled a.cookie.0 a.interleaved (opened_in h f))}
-    (record { leaves = λ datagram f. rw (count-first h.taken, saved-back h o.saved, edition-back h.state o.edition, ← c.sent_server-server.ensures, ← c.missed_counted-missed.ensures, c.edition_of-edition.ensures) })
-    (λ datagram f. rw (ne_eqb _ _ c.if-h-eq0.false, is-last a.cookie.0 h.last.0, another (goal.at.returns c).Else-cookie-eq, ← length_at (goal.at.returns c).After-poll_length, le-ltb _ _ c.if-room-poll_length.false))
-    refl
+    record {
+      does =
+          done {a = poll_reply (record { edition = edition_of h.state; timescale = h.timescale; chunk = h.chunk; offset = h.next; server = record { 0 = sent_cookie a.interleaved (opened_in h []) } })} {p = λ datagram f. opened (polled a.cookie.0 a.interleaved (opened_in h f))}
+          (record { leaves = λ datagram f. rw (count-first h.taken, saved-back h o.saved, edition-back h.state o.edition, ← c.sent_server-server.ensures, ← c.missed_counted-missed.ensures, c.edition_of-edition.ensures) })
+          (λ datagram f. rw (ne_eqb _ _ c.if-h-eq0.false, is-last a.cookie.0 h.last.0, another (goal.at.returns c).Else-cookie-eq, ← length_at (goal.at.returns c).After-poll_length, le-ltb _ _ c.if-room-poll_length.false))
+          refl;
+      kind = refl;
+    }

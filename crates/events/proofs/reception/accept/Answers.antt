@@ -17,7 +17,7 @@ returns c =
     let q = asked-ranges c.args.h o.request c.requires.2 in
     let w = whole_words c.args.h o q in
     let s = started _ c.in-Some.ensures in
-    record { leaves = λ datagram f. rw (w.offset, w.chunk, s.0, s.1, c.reply_to-reply.ensures, c.used_head-used.ensures, c.advance.ensures, c.taken_after.ensures, count-onward c.args.h o q.offset) }
+    (record { leaves = λ datagram f. rw (w.offset, w.chunk, s.0, s.1, c.reply_to-reply.ensures.0, c.used_head-used.ensures, c.advance.ensures, c.taken_after.ensures, count-onward c.args.h o q.offset) }, c.reply_to-reply.ensures.1)
 
 pub advance-requires : goal.advance-requires
 advance-requires c = let s = sums-fit c.args.h c.requires.0 in omega arith

@@ -1,5 +1,6 @@
 -- `read` meets its contract: a datagram that is not sound is refused by its number, and a sound one's header is read. Assumes nothing.
 use mathlib.Core.Path.{sym, ap, ◌∙◌}
+use Rattle.std.specs.Prelude.{None}
 use Prim.Native.Nat.{ℕ}
 use native.Mathlib.Omega.{arith}
 use Rattle.std.proofs.lemmas.Result.{err_from_is_err_and}
@@ -7,8 +8,8 @@ use Rattle.refusal.proofs.Numbers.{number_above_none}
 use Rattle.header.proofs.Layouts.{header-at}
 use Rattle.header.proofs.Refusals.{passes}
 use Rattle.chain.proofs.Datagrams.{header-passes}
-use Rattle.exchange.specs.Response.{refused_response}
-use Rattle.exchange.proofs.Responses.{response-accepted, response-refused, read-alike}
+use Rattle.exchange.specs.Response.{Response, refused_response}
+use Rattle.exchange.proofs.Responses.{read-accepted, read-refused, read-alike}
 use Rattle.exchange.proofs.response.read.Goals as goal
 
 pub returns-in_err-sound : goal.returns-in_err-sound
@@ -18,7 +19,7 @@ returns-in_err-sound c t4 =
     let above = number_above_none c.in_err-sound.field-0.0 in
     let p = err_from_is_err_and c.from_residual.result c.from_residual.ensures.1 in
     rw (p.1, p.2)
-    (ap (λ (n : ℕ). refused_response n t4) e ∙ sym (response-refused a.edition a.datagram.now t4 (λ z. omega (arith, e))))
+    (ap (λ (n : ℕ). (refused_response n t4, None)) e ∙ sym (read-refused a.edition a.datagram.now t4 (λ z. omega (arith, e))))
 
 pub returns : goal.returns
 returns c t4 =
@@ -26,4 +27,5 @@ returns c t4 =
     let s = a.datagram.now in
     let passed = sym c.in_ok-sound.ensures in
     let h = c.fields-h.ensures ∙ header-at a.edition s (passes s 4 (header-passes s 4 passed)).low in
-    rw (c.is_interleaved.ensures, c.chunk_in-chunk.ensures, h) (read-alike _ _ t4 ∙ sym (response-accepted a.edition s t4 passed))
+    let o = c.chunk_in-chunk.result in
+    rw (c.is_interleaved.ensures, h) (ap (λ (r : Response). (r, o)) (read-alike o _ t4) ∙ read-accepted a.edition s t4 c.chunk_in-chunk.ensures passed)
