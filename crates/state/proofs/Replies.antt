@@ -11,7 +11,7 @@ use Rattle.exchange.specs.declared.judging.ChunkOutcome.{ChunkOutcome}
 use Rattle.exchange.specs.declared.judging.ChunkOutcome.TheVariants.{Taken, Absent, OtherSize}
 use Rattle.state.specs.Reply.{Reply}
 use Rattle.state.specs.Code.{reply_as}
-use Rattle.state.specs.Kind.{Kind, done, asked, measured, looked, kind_of}
+use Rattle.state.specs.Kind.{Kind, done, asked, measured, looked, kind_of, SameReply}
 use Rattle.state.specs.declared.event.Reply as code
 use Rattle.state.specs.declared.event.Reply.TheVariants.{Done, Asked, Measured, Looked}
 
@@ -49,5 +49,5 @@ reply-back (Measured j c t) = rw (judged-back j, outcome-back c)
 reply-back (Looked b) = refl
 
 -- so that a contract with both fixes the reply
-pub same-reply : (a b : code.Reply) → kind_of a ≡ kind_of b → reply_as a ≡ reply_as b → a ≡ b
+pub same-reply : SameReply
 same-reply a b k e = sym (reply-back a) ∙ ap (λ (x : Kind). reply_by x (reply_as a)) k ∙ ap (reply_by (kind_of b)) e ∙ reply-back b

@@ -5,7 +5,7 @@ use Rattle.refusal.specs.declared.Refusal.{Refusal}
 use Rattle.state.specs.Event.{Event, Open, Close, Poll, Sent, Receive, Look}
 use Rattle.state.specs.Reply.{Reply}
 use Rattle.state.specs.Change.{changed, Does}
-use Rattle.state.specs.Code.{changed_as}
+use Rattle.state.specs.Code.{reply_as, changed_as}
 use Rattle.state.specs.declared.event.Reply as code_reply
 use Rattle.state.specs.declared.event.Reply.TheVariants as reply
 use Rattle.state.specs.declared.head.Head.{Head}
@@ -49,3 +49,9 @@ changed_in_kind e h = (changed e h, kind_for e)
 pub record Answers (e : Event) (h : Head) (r : Result code_change.Change Refusal) : Type 0 where
   pub does : Does e h (changed_as r h)
   pub kind : kind_made e r ≡ kind_for e
+
+-- A CLAIM
+
+-- a contract that has both the kind and the record of a reply fixes the reply
+abbrev pub SameReply : Type 0
+SameReply = (a b : code_reply.Reply) → kind_of a ≡ kind_of b → reply_as a ≡ reply_as b → a ≡ b

@@ -5,6 +5,7 @@ use Prim.Native.Nat.{ℕ}
 use native.Mathlib.Omega.{arith}
 use Rattle.std.proofs.lemmas.Result.{err_from_is_err_and}
 use Rattle.refusal.proofs.Numbers.{number_above_none}
+use Rattle.header.specs.Header.{header_of}
 use Rattle.header.proofs.Layouts.{header-at}
 use Rattle.header.proofs.Refusals.{passes}
 use Rattle.chain.proofs.Datagrams.{header-passes}
@@ -28,4 +29,4 @@ returns c t4 =
     let passed = sym c.in_ok-sound.ensures in
     let h = c.fields-h.ensures ∙ header-at a.edition s (passes s 4 (header-passes s 4 passed)).low in
     let o = c.chunk_in-chunk.result in
-    rw (c.is_interleaved.ensures, h) (ap (λ (r : Response). (r, o)) (read-alike o _ t4) ∙ read-accepted a.edition s t4 c.chunk_in-chunk.ensures passed)
+    rw (c.is_interleaved.ensures, h) (ap (λ (r : Response). (r, o)) (read-alike o (header_of a.edition s) t4) ∙ read-accepted a.edition s t4 c.chunk_in-chunk.ensures passed)
