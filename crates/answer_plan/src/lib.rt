@@ -2,13 +2,13 @@
 #![tactic(auto)]
 
 ghost use Rattle.std.specs.Prelude.{◌≡◌, false};
-ghost use Rattle.refusal.specs.Refusal.{outcome_number, by_number};
+ghost use Rattle.refusal.specs.Refusal.{outcome_number, result_by, not_by_0, and_not_by_0};
 ghost use Rattle.responder_rules.specs.Answer.{refused_answer};
 ghost use Rattle.answer_plan.specs.Value.{request_cookie, plan_as, keeping_plan, plan_of, leaves, planned};
 
 use answer_header::wants_interleaved;
 use header::{Header, ServerCookie};
-use refusal::Refusal;
+use refusal::{Refusal, RefusedBy};
 
 // What is found in the records: whether they are wrong, how many there are, the places of the fresh cookie and of the request's, or the
 // end, and the time at the latter.
@@ -70,23 +70,30 @@ fn keeping(wants: bool, found: Found) -> Plan
     }
 }
 
-// The refusals come in the order of N-26: the records' 6, what the arguments and the request are refused by, 8, 11.
-pub fn plan_of(
+// The refusals come in the order of N-26: the records' 6, what the arguments and the request are refused by, 8, 11. What the request is
+// refused by is handed on, whatever its number is; 0 refuses nothing.
+pub fn plan_of<R: RefusedBy>(
     found: Found,
-    request: Result<Header, Refusal>,
+    request: Result<Header, R>,
     short: bool,
     fresh_cookie: ServerCookie,
-) -> Result<Plan, Refusal>
-    ensures { (plan_as found.len (by_number result), leaves (by_number result))
-        ≡ planned (plan_of found.wrong (by_number request) short fresh_cookie found.len found.fresh_at found.at found.time) }
+) -> Result<Plan, R>
+    ensures { ((plan_as found.len (result_by R.as_number result), leaves (result_by R.as_number result)), not_by_0 R.as_number result)
+        ≡ and_not_by_0 (planned (plan_of found.wrong (result_by R.as_number request) short fresh_cookie found.len found.fresh_at found.at found.time)) }
 {
     if found.wrong {
-        return Err(Refusal::BadArgument);
+        return Err(R::of(Refusal::BadArgument));
     }
-    let asked = request?;
+    let asked = match request {
+        Ok(asked) => asked,
+        Err(by) if by.number() == 0 => return Ok(Plan::Basic),
+        Err(by) => return Err(by),
+    };
     let wants = wants_interleaved(asked);
     let no_cookie = fresh_cookie == ServerCookie(0);
     let wrong_cookie = wants & (no_cookie | (found.fresh_at < found.len));
-    refused(wrong_cookie, short)?;
+    if let Err(refusal) = refused(wrong_cookie, short) {
+        return Err(R::of(refusal));
+    }
     Ok(keeping(wants, found))
 }

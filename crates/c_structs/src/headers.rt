@@ -1,11 +1,11 @@
 // A header as C has it: its cookies are plain numbers, which the core keeps in two types, and its edition is an argument of the calls.
 ghost use Rattle.std.specs.Prelude.{◌≡◌};
-ghost use Rattle.refusal.specs.Refusal.{by_number};
+ghost use Rattle.refusal.specs.Refusal.{result_by};
 ghost use Rattle.c_structs.specs.Headers.{of_header, read_of, core_header};
 
 use header::edition::edition_of;
 use header::{ClientCookie, ServerCookie};
-use refusal::Refusal;
+use refusal::RefusedBy;
 
 #[repr(C)]
 #[derive(Clone, Copy, Default)]
@@ -59,10 +59,10 @@ impl From<header::Header> for Header {
 }
 
 // N-27: a refusal has a header of zeros.
-impl From<Result<header::Header, Refusal>> for Read {
-    ghost from_gives = { λ said r. r ≡ read_of (by_number said) };
+impl<R: RefusedBy> From<Result<header::Header, R>> for Read {
+    ghost from_gives = { λ said r. r ≡ read_of (result_by R.as_number said) };
 
-    fn from(said: Result<header::Header, Refusal>) -> Read {
+    fn from(said: Result<header::Header, R>) -> Read {
         match said {
             Ok(fields) => Read {
                 refusal: 0,

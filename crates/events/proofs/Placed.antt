@@ -4,13 +4,11 @@ use mathlib.Core.Bool.{Bool, true, false, cond, not, ◌||◌, ◌&&◌, true≢
 use mathlib.Core.List.{List}
 use Prim.Native.Nat.{ℕ}
 use Rattle.std.specs.Prelude.{Option, Some, None, Result, Ok, Err}
-use Rattle.refusal.specs.Refusal.{refusal_number}
-use Rattle.refusal.specs.declared.Refusal.{Refusal}
-use Rattle.exchange.specs.Response.{responded}
+use Rattle.exchange.specs.Response.{refused_response, responded_by}
 use Rattle.exchange.specs.declared.response.Response as code
 use lib.Dec.{eqb}
 use lib.ListN.{replicate}
-use borrow.Author.Tests.{ne_eqb, eq-eqb}
+use borrow.Author.Tests.{ne_eqb, eq-eqb, eqb-true, eqb-false}
 use Rattle.header.specs.Edition.{is_edition, edition_of}
 use Rattle.state.specs.Rules.{plain_reply}
 use Rattle.state.specs.Plain.{opened, newly_opened, reported, refuse_at, place_do, Outstanding, Place, received, reply_of}
@@ -20,10 +18,11 @@ use Rattle.state.specs.Event.{Sent, Receive}
 use Rattle.state.specs.declared.head.Head.{Head}
 use Rattle.state.specs.declared.head.Filling.TheVariants.{Clear}
 use Rattle.state.proofs.Flags.{count-first}
+use Rattle.state.specs.Range.{last_in_range}
 use Rattle.state.proofs.Ranges.{edition-back}
 use Rattle.exchange.specs.Response.{Response}
 use Rattle.state.specs.Reply.{Reply}
-use Rattle.state.proofs.Changes.{by_place, on-request, refusal-number}
+use Rattle.state.proofs.Changes.{by_place, on-request}
 
 -- the numbers of an association where so many octets were taken, and all else is as after opening
 abbrev opened_head : (edition timescale c taken : ℕ) → Head
@@ -80,25 +79,49 @@ module _ (r : Response) (h : Head) (datagram f : List ℕ) where
       (on-request (request_in h) (eqb h.outstanding 0) (λ k. not (eqb r.client.0 k.client)) (refuse_at 9 (opened (opened_in h f))) rest)
 
 -- what was read, or why nothing was, with its T4
-pub responded-t4 : (w : Result code.Response Refusal) (t4 : ℕ) → (responded w t4).t4 ≡ t4
-responded-t4 (Ok r) t4 = refl
-responded-t4 (Err e) t4 = refl
+pub responded-t4 : {R : Type 0} (number : R → ℕ) (w : Result code.Response R) (t4 : ℕ) → (responded_by number w t4).t4 ≡ t4
+responded-t4 number (Ok r) t4 = refl
+responded-t4 number (Err e) t4 = refl
 
-module _ (w : Result code.Response Refusal) (t4 : ℕ) (h : Head) (datagram f : List ℕ) where
+module _ {R : Type 0} (number : R → ℕ) (w : Result code.Response R) (t4 : ℕ) (h : Head) (datagram f : List ℕ) where
   -- 6 comes first, then 7
-  pub untimed : t4 ≡ 0 → place_do (Receive (responded w t4)) datagram (place_in h f) ≡ refuse_at 6 (place_in h f)
+  pub untimed : t4 ≡ 0 → place_do (Receive (responded_by number w t4)) datagram (place_in h f) ≡ refuse_at 6 (place_in h f)
   unfolding place_do
-  untimed z = by_place (λ (p : Place). place_do (Receive (responded w t4)) datagram p ≡ refuse_at 6 p) h f (rw (responded-t4 w t4, eq-eqb _ _ z)) (rw (responded-t4 w t4, eq-eqb _ _ z))
+  untimed z = by_place (λ (p : Place). place_do (Receive (responded_by number w t4)) datagram p ≡ refuse_at 6 p) h f (rw (responded-t4 number w t4, eq-eqb _ _ z)) (rw (responded-t4 number w t4, eq-eqb _ _ z))
 
-  pub not-open : (t4 ≡ 0 → ⊥) → h.state ≡ 0 → place_do (Receive (responded w t4)) datagram (place_in h f) ≡ refuse_at 7 (place_in h f)
+  pub not-open : (t4 ≡ 0 → ⊥) → h.state ≡ 0 → place_do (Receive (responded_by number w t4)) datagram (place_in h f) ≡ refuse_at 7 (place_in h f)
   unfolding place_do
-  not-open timed z = rw (eq-eqb _ _ z, responded-t4 w t4, ne_eqb _ _ timed)
+  not-open timed z = rw (eq-eqb _ _ z, responded-t4 number w t4, ne_eqb _ _ timed)
 
--- then the refusal of the datagram
-pub unread : (e : Refusal) (t4 : ℕ) (h : Head) (datagram f : List ℕ) → (t4 ≡ 0 → ⊥) → (h.state ≡ 0 → ⊥)
-    → place_do (Receive (responded (Err e) t4)) datagram (place_in h f) ≡ refuse_at (refusal_number e) (place_in h f)
-unfolding place_do
-unread e t4 h datagram f timed is_open = rw (ne_eqb _ _ is_open, ne_eqb _ _ timed, refusal-number e)
+-- a request that is outstanding has a client cookie
+none-of-zeros : (h : Head) → last_in_range h ≡ true → eqb h.outstanding 0 || not (eqb 0 h.last.0) ≡ true
+none-of-zeros h ranges = go (eqb h.last.0 0) refl (eqb h.outstanding 0) refl
+  where
+    go : (l : Bool) → eqb h.last.0 0 ≡ l → (o : Bool) → eqb h.outstanding 0 ≡ o → eqb h.outstanding 0 || not (eqb 0 h.last.0) ≡ true
+    go l i true j = rw j refl
+    go true i false j = absurd (true≢false (sym (rw (i, j) at ranges)))
+    go false i false j = rw (j, ne_eqb 0 h.last.0 (λ z. eqb-false _ _ i (sym z))) refl
+
+module _ (n t4 : ℕ) (h : Head) (datagram f : List ℕ) (timed : t4 ≡ 0 → ⊥) (is_open : h.state ≡ 0 → ⊥) where
+  -- then the refusal of the datagram
+  pub unread : (n ≡ 0 → ⊥) → place_do (Receive (refused_response n t4)) datagram (place_in h f) ≡ refuse_at n (place_in h f)
+  unfolding place_do
+  unread refuses = rw (ne_eqb _ _ is_open, ne_eqb _ _ timed, ne_eqb _ _ refuses)
+
+  -- number 0 refuses nothing, and the zeros are no outstanding request's
+  pub unread-by : last_in_range h ≡ true → place_do (Receive (refused_response n t4)) datagram (place_in h f) ≡ refuse_at (cond (eqb n 0) 9 n) (place_in h f)
+  unread-by ranges = go (eqb n 0) refl
+    where
+      go : (b : Bool) → eqb n 0 ≡ b → place_do (Receive (refused_response n t4)) datagram (place_in h f) ≡ refuse_at (cond b 9 n) (place_in h f)
+      go false i = unread (eqb-false n 0 i)
+      go true i = asked (refused_response n t4) h datagram f timed is_open (eqb-true n 0 i) ∙ rw (none-of-zeros h ranges, ne_eqb _ _ is_open)
+
+pub unread-refuses : (n : ℕ) → eqb (cond (eqb n 0) 9 n) 0 ≡ false
+unread-refuses n = go (eqb n 0) refl
+  where
+    go : (b : Bool) → eqb n 0 ≡ b → eqb (cond b 9 n) 0 ≡ false
+    go true i = refl
+    go false i = i
 
 -- whether a chunk is taken, by where its data start
 start_or : Option ℕ → ℕ

@@ -14,7 +14,7 @@
 ghost use Rattle.std.specs.Prelude.{◌≡◌, IfOk};
 
 use octets::number::get;
-use refusal::Refusal;
+use refusal::{Refusal, RefusedBy};
 use std::fmt::Display;
 use std::io;
 use std::io::{Cursor, Write};
@@ -173,8 +173,8 @@ impl<W: Write> Row<'_, W> {
         line.form(row, values, octets)
     }
 
-    // The row with a refusal or 0, and for some rows octets.
-    pub fn result(self, outcome: Result<(), Refusal>, octets: &[u8]) -> io::Result<()>
+    // The row with a refusal or 0, and for some rows octets. The refusal may be any number, which is printed.
+    pub fn result<R: RefusedBy>(self, outcome: Result<(), R>, octets: &[u8]) -> io::Result<()>
         ensures { IfOk result (λ r. r ≡ tt) }
     {
         self.line(&[u64::from(refusal::outcome_number(outcome)), 0], octets)

@@ -6,7 +6,7 @@ mod datagram;
 
 ghost use Rattle.std.specs.Prelude.{◌≡◌, length};
 ghost use Rattle.std.specs.Option.{unwrap_or};
-ghost use Rattle.refusal.specs.Refusal.{by_number};
+ghost use Rattle.refusal.specs.Refusal.{result_by, by_number, not_by_0, and_not_by_0};
 ghost use Rattle.responder_rules.specs.Answer.{given_as};
 ghost use Rattle.records.specs.Records.{records_in, leave_records, join_records};
 ghost use Rattle.answer_plan.specs.Step.{step_as, stepped, answer_step};
@@ -16,7 +16,7 @@ use answer_plan::{Found, Plan};
 use header::edition::Edition;
 use header::{Header, ServerCookie};
 use records::Record;
-use refusal::Refusal;
+use refusal::{Refusal, RefusedBy};
 pub use responder_rules::{Given, Server};
 
 // A record leaves, if one is to, and then the fresh cookie joins.
@@ -31,16 +31,16 @@ fn replace(records: &mut [Record], leaving: Option<usize>, fresh_cookie: ServerC
 }
 
 // The one step of an answer on the records: it decides all the refusals that are left, and where there is none, the record whose time is
-// sent leaves and the fresh cookie joins. `request` is its header or what it is refused by; `short`: the output is shorter than the answer.
-// The saved time is what is sent, and 0 in a basic answer.
-pub fn answer_step(
+// sent leaves and the fresh cookie joins. `request` is its header or what it is refused by, which is handed on whatever its number is, but
+// for 0, which refuses nothing; `short`: the output is shorter than the answer. The saved time is what is sent, and 0 in a basic answer.
+pub fn answer_step<R: RefusedBy>(
     records: &mut [Record],
-    request: Result<Header, Refusal>,
+    request: Result<Header, R>,
     short: bool,
     fresh_cookie: ServerCookie,
-) -> Result<u64, Refusal>
-    ensures { stepped (step_as (by_number result)) (records_in records.new)
-        ≡ answer_step (by_number request) short fresh_cookie.0 (records_in records.old) }
+) -> Result<u64, R>
+    ensures { (stepped (step_as (result_by R.as_number result)) (records_in records.new), not_by_0 R.as_number result)
+        ≡ and_not_by_0 (answer_step (result_by R.as_number request) short fresh_cookie.0 (records_in records.old)) }
 {
     let at = records::find(records, 0, answer_plan::asked_cookie(request));
     let found = Found {

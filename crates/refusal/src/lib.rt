@@ -1,9 +1,12 @@
 // Why a call is refused: the refusals of N-1 to N-24, with the numbers that document 01 gives them.
 #![tactic(auto)]
 
-ghost use Rattle.std.specs.Prelude.{◌≡◌};
-ghost use Rattle.refusal.specs.Refusal.{refusal_number, outcome_number};
+mod refused_by;
 
+ghost use Rattle.std.specs.Prelude.{◌≡◌};
+ghost use Rattle.refusal.specs.Refusal.{refusal_number, outcome_by};
+
+pub use crate::refused_by::RefusedBy;
 use std::fmt;
 
 #[derive(Clone, Copy, Debug, PartialEq, Eq)]
@@ -53,8 +56,8 @@ impl fmt::Display for Refusal {
 }
 
 // N-27: the number of a refusal, or 0.
-pub fn outcome_number(result_of: Result<(), Refusal>) -> u8
-    ensures { result ≡ outcome_number result_of }
+pub fn outcome_number<R: RefusedBy>(result_of: Result<(), R>) -> u8
+    ensures { result ≡ outcome_by R.as_number result_of }
 {
     match result_of {
         Ok(()) => 0,

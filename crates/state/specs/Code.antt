@@ -3,7 +3,7 @@ use Rattle.std.specs.Prelude.{Result, Ok, Err, Bool, false, ℕ}
 use Rattle.refusal.specs.Refusal.{refusal_number}
 use Rattle.refusal.specs.declared.Refusal.{Refusal}
 use Rattle.poll_request.specs.declared.Asked.{Asked}
-use Rattle.exchange.specs.Response.{responded}
+use Rattle.exchange.specs.Response.{responded_by}
 use Rattle.exchange.specs.Judging.{judgement_number, chunk_number}
 use Rattle.exchange.specs.declared.judging.Times.{Times}
 use Rattle.state.specs.Event.{Event, Open, Close, Poll, Sent, Receive, Look}
@@ -18,13 +18,17 @@ use Rattle.state.specs.declared.head.Head.{Head}
 use Rattle.state.specs.declared.head.Filling.TheVariants.{Keep}
 use Rattle.state.specs.declared.head.Change as code_change
 
-abbrev pub event_as : code_event.Event → Event
-event_as (event.Open edition timescale c) = Open edition timescale c
-event_as event.Close = Close
-event_as (event.Poll cookie interleaved room) = Poll cookie interleaved room
-event_as (event.Sent t1) = Sent t1
-event_as (event.Receive response t4) = Receive (responded response t4)
-event_as event.Look = Look
+-- `number`, here and below, is that of what refuses: a datagram, an event or a change
+abbrev pub event_by : {R : Type 0} → (number : R → ℕ) → code_event.Event R → Event
+event_by number (event.Open edition timescale c) = Open edition timescale c
+event_by number event.Close = Close
+event_by number (event.Poll cookie interleaved room) = Poll cookie interleaved room
+event_by number (event.Sent t1) = Sent t1
+event_by number (event.Receive response t4) = Receive (responded_by number response t4)
+event_by number event.Look = Look
+
+abbrev pub event_as : code_event.Event Refusal → Event
+event_as e = event_by refusal_number e
 
 abbrev pub asked_of : code_reply.Reply → Asked
 asked_of reply.Done = none_asked
@@ -60,9 +64,12 @@ complete_in (reply.Looked complete) = complete
 abbrev pub reply_as : code_reply.Reply → Reply
 reply_as r = record { refusal = 0; asked = asked_of r; judgement = judgement_of r; outcome = outcome_in r; times = times_in r; complete = complete_in r }
 
+abbrev pub replied_by : {R : Type 0} → (number : R → ℕ) → Result code_reply.Reply R → Reply
+replied_by number (Ok r) = reply_as r
+replied_by number (Err e) = plain_reply (number e)
+
 abbrev pub replied : Result code_reply.Reply Refusal → Reply
-replied (Ok r) = reply_as r
-replied (Err e) = plain_reply (refusal_number e)
+replied r = replied_by refusal_number r
 
 -- of a call that only reads, which tells whether the filter is complete
 abbrev pub looked : Result Bool Refusal → Reply
@@ -70,9 +77,12 @@ looked (Ok b) = look_reply b
 looked (Err e) = plain_reply (refusal_number e)
 
 -- of numbers h: a refusal changes nothing (N-28)
+abbrev pub changed_by : {R : Type 0} → (number : R → ℕ) → Result code_change.Change R → Head → Change
+changed_by number (Ok d) h = change (reply_as d.reply) d.head d.filling
+changed_by number (Err e) h = refuse (number e) h
+
 abbrev pub changed_as : Result code_change.Change Refusal → Head → Change
-changed_as (Ok d) h = change (reply_as d.reply) d.head d.filling
-changed_as (Err e) h = refuse (refusal_number e) h
+changed_as r h = changed_by refusal_number r h
 
 -- and a call that only reads changes nothing either
 abbrev pub looked_as : Result Bool Refusal → Head → Change

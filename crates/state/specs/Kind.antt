@@ -1,11 +1,12 @@
 -- Which of the code's replies an event has. `reply_as` alone makes one of `Done`, of a look at a filter that is not complete, and of a request
 -- of zeros.
 use Rattle.std.specs.Prelude.{Result, Ok, Err, ◌≡◌, List, ℕ}
+use Rattle.refusal.specs.Refusal.{refusal_number}
 use Rattle.refusal.specs.declared.Refusal.{Refusal}
 use Rattle.state.specs.Event.{Event, Open, Close, Poll, Sent, Receive, Look}
 use Rattle.state.specs.Reply.{Reply}
 use Rattle.state.specs.Change.{changed, Does}
-use Rattle.state.specs.Code.{reply_as, changed_as}
+use Rattle.state.specs.Code.{reply_as, changed_by}
 use Rattle.state.specs.declared.event.Reply as code_reply
 use Rattle.state.specs.declared.event.Reply.TheVariants as reply
 use Rattle.state.specs.declared.head.Head.{Head}
@@ -33,11 +34,11 @@ kind_for (Receive r) = measured
 kind_for Look = looked
 
 -- of what an event answered; a refusal has no reply, and stands for any
-abbrev pub kind_in : Event → Result code_reply.Reply Refusal → Kind
+abbrev pub kind_in : {R : Type 0} → Event → Result code_reply.Reply R → Kind
 kind_in e (Ok r) = kind_of r
 kind_in e (Err n) = kind_for e
 
-abbrev pub kind_made : Event → Result code_change.Change Refusal → Kind
+abbrev pub kind_made : {R : Type 0} → Event → Result code_change.Change R → Kind
 kind_made e (Ok d) = kind_of d.reply
 kind_made e (Err n) = kind_for e
 
@@ -46,9 +47,12 @@ abbrev pub changed_in_kind : Event → Head → ((datagram filter : List ℕ) �
 changed_in_kind e h = (changed e h, kind_for e)
 
 -- the change does what the event does, and its reply is of the event's kind
-pub record Answers (e : Event) (h : Head) (r : Result code_change.Change Refusal) : Type 0 where
-  pub does : Does e h (changed_as r h)
+pub record AnswersBy {R : Type 0} (number : R → ℕ) (e : Event) (h : Head) (r : Result code_change.Change R) : Type 0 where
+  pub does : Does e h (changed_by number r h)
   pub kind : kind_made e r ≡ kind_for e
+
+abbrev pub Answers : Event → Head → Result code_change.Change Refusal → Type 0
+Answers e h r = AnswersBy refusal_number e h r
 
 -- A CLAIM
 

@@ -1,5 +1,6 @@
 -- `apply` meets its contract: the record is lent to the event and comes back in its place. Assumes nothing.
 use mathlib.Core.Path.{ap}
+use mathlib.Core.Bool.{Bool}
 use mathlib.Core.List.{List}
 use Prim.Native.Nat.{ℕ}
 use Rattle.state.specs.Kind.{Kind}
@@ -16,4 +17,4 @@ returns-then-association-gt15 c = let a = c.args in bad-number a.association _ a
 pub returns : goal.returns
 returns c =
     let a = c.args in
-    part-back a.association _ a.datagram.now a.table.now c.if-table-ne-NUMBERS.false _ _ c.if-association-gt15.false (ap (λ (w : (Reply × List ℕ) × Kind). w.0) c.apply.ensures)
+    part-back a.association _ a.datagram.now a.table.now c.if-table-ne-NUMBERS.false _ _ c.if-association-gt15.false (ap (λ (w : ((Reply × List ℕ) × Kind) × Bool). w.0.0) c.apply.ensures)
